@@ -1,0 +1,4 @@
+pub mod Cells
+pub mod Lawful
+pub mod Arrangement
+pub mod CellLaws

@@ -1,0 +1,1 @@
+// Cells, their lists and their core frames.

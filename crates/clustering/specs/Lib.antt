@@ -1,0 +1,6 @@
+pub mod Clusters
+pub mod Sets
+pub mod ClusterLaws
+pub mod Leaders
+pub mod AnyOrder
+pub mod LeaderPartition

@@ -1,0 +1,1 @@
+// Sets of linked core cells, and the labels of frames.

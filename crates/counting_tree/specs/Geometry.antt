@@ -1,0 +1,88 @@
+-- What cells, lists, core frames and clusters need of the frames and the settings. A frame is named by its number. Definitions only.
+use mathlib.Core.Bool.{Bool, true, false, _&&_}
+use mathlib.Core.List.{List, [], _∷_}
+use Prim.Native.Nat.{ℕ, _*_}
+use lib.IntN.{ℤ, pos, negsuc}
+use lib.Dec.{leb, eqb}
+use lib.ListN.{length, getD}
+use lib.Ieee.{Float, le}
+use Rattle.hyperparams.specs.Params.{levels}
+use Rattle.hyperparams.specs.declared.ValidParams.{ValidParams}
+use Rattle.counting_tree.specs.Frames.{Frame, squared, floats}
+use Rattle.counting_tree.specs.Grid.{sideAt, indexes, centres}
+use Rattle.counting_tree.specs.Box.{distance, intersection}
+use Rattle.counting_tree.specs.declared.IntersectionType.{IntersectionType}
+
+pub record Geometry : Type 0 where
+  -- how many frames there are
+  pub frames : ℕ
+  -- `min_points`
+  pub least : ℕ
+  -- the levels below the root
+  pub levels : ℕ
+  -- frames i and j share a box of level l
+  pub same : ℕ → ℕ → ℕ → Bool
+  -- cells with the first frames c and d list each other
+  pub near : ℕ → ℕ → Bool
+  -- frames i and j lie at most t apart
+  pub within : ℕ → ℕ → Bool
+  -- how the box of level l in which frame x lies stands to frame q
+  pub box : ℕ → ℕ → ℕ → IntersectionType
+
+abbrev pub sameInt : ℤ → ℤ → Bool
+sameInt (pos a) (pos b) = eqb a b
+sameInt (pos a) (negsuc b) = false
+sameInt (negsuc a) (pos b) = false
+sameInt (negsuc a) (negsuc b) = eqb a b
+
+abbrev pub sameInts : List ℤ → List ℤ → Bool
+sameInts [] [] = true
+sameInts [] (y ∷ ys) = false
+sameInts (x ∷ xs) [] = false
+sameInts (x ∷ xs) (y ∷ ys) = sameInt x y && sameInts xs ys
+
+-- "at most 4 × t × t": the factor of the lists of document 01
+abbrev pub short : ℕ
+short = 4
+
+module _ (v : ValidParams) (fs : List Frame) where
+  abbrev pub frame : ℕ → Frame
+  frame i = getD fs i []
+
+  abbrev pub N : ℕ → ℕ → ℕ
+  N i j = squared (frame i) (frame j)
+
+  -- the side of level l
+  unfoldable pub side : ℕ → Float
+  unfolding sideAt
+  side l = sideAt (v .channels) (v .tolerance) l
+
+  -- "their indexes agree in each channel", at the side of level l
+  unfoldable pub sameBox : ℕ → ℕ → ℕ → Bool
+  unfolding side indexes
+  sameBox l i j = sameInts (indexes (side l) (frame i)) (indexes (side l) (frame j))
+
+  -- "frames within t": distance ≤ t
+  unfoldable pub within : ℕ → ℕ → Bool
+  unfolding distance le
+  within i j = le (distance (floats (frame i)) (floats (frame j))) (v .tolerance)
+
+  unfoldable pub box : ℕ → ℕ → ℕ → IntersectionType
+  unfolding intersection side centres
+  box q l x = intersection (v .channels) (v .tolerance) (v .«appx_tolerance») (side l) (centres (side l) (frame x)) (floats (frame q))
+
+  -- "a sum of squared differences from its own of at most 4 × t × t", with the factor as a parameter
+  unfoldable pub near : ℕ → ℕ → ℕ → Bool
+  near reach c d = leb (N c d) (reach * (v .t * v .t))
+
+unfoldable pub geometryOf : ℕ → ValidParams → List Frame → Geometry
+unfolding sameBox within box near
+geometryOf reach v fs = record {
+  frames = length fs;
+  least = v .«min_points»;
+  levels = levels (v .s);
+  same = sameBox v fs;
+  near = near v fs reach;
+  within = within v fs;
+  box = box v fs;
+}

@@ -1,0 +1,14 @@
+// The box of a frame at each level, and the test of a box against a frame.
+
+// A box: its centre, of which the first coordinates up to the number of channels count, and its side.
+pub struct Box {
+    pub centre: [f64; 4],
+    pub side: f64,
+}
+
+// How a box lies to a frame's ball.
+pub enum IntersectionType {
+    FullyCovered,
+    Disjoint,
+    Intersecting,
+}

@@ -1,0 +1,4 @@
+pub mod Params
+pub mod Tolerance
+pub mod Accepted
+pub mod Examples

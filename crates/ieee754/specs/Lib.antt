@@ -1,0 +1,17 @@
+pub mod Steps
+pub mod Norm
+pub mod Near
+pub mod Value
+pub mod Ops
+pub mod Compare
+pub mod Exact
+pub mod Abs
+pub mod Root
+pub mod RootLaw
+pub mod RootDigits
+pub mod RootNearest
+pub mod Whole
+pub mod Ceil
+pub mod Room
+pub mod Small
+pub mod Nearest

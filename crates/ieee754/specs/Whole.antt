@@ -1,0 +1,133 @@
+-- Between frames of whole numbers the float distance is exact but for its root, and "distance ≤ t" is "sum of squares ≤ t * t". Assumes nothing.
+use mathlib.Core.Path.{_≡_, refl, sym, ap, _∙_, subst}
+use mathlib.Core.Logic.{_⊎_, inl, inr}
+use mathlib.Core.Bool.{Bool, true, false, not, cond, true≢false}
+use mathlib.Core.List.{List, [], _∷_}
+use Prim.Native.Nat.{ℕ, zero, suc, _+_, _-_, _*_, _/_, _%_, _^_, _≤_, _<_}
+use native.Mathlib.Nat.{le-trans, le-of-eq, le-refl, lt-of-le-of-lt, lt-of-lt-of-le, mul-le-mul, mul-le-mul-left, mul-le-mul-right, mul-pos, mul-assoc, mul-comm, add-mul, add-assoc, add-zero, zero-add, zero-lt-suc, not-le-of-lt, le-of-lt, eq-of-mul-eq-mul-right, mul-right-comm}
+use native.Mathlib.Omega.{arith}
+use lib.IntN.{ℤ, pos, negsuc}
+use lib.Dec.{T, leb, ltb, leb→le, le→leb, ltb→lt, nltb→le, lit<, lit≤}
+use lib.Pow.{pow-pos}
+use lib.ListN.{length}
+use lib.Ieee.{Float, nan, inf, fin, binary64, round, add, sub, mul, ofInt, unlike, up, down, le}
+use lib.Ieee.Fits.{up-pos, down-pos}
+use Rattle.ieee754.specs.Steps.{Root}
+use Rattle.ieee754.specs.Norm.{squares, sq-mono, sq-lt, sq-le-back, sq-lt-back, lt-or-ge, Tri, none, more, triangle}
+use Rattle.ieee754.specs.Value.{unit, unit-pos, tiny, unit-tiny, tiny-large, mag, sign, Good, Is, Close, Rounded}
+use Rattle.ieee754.specs.Ops.{plus, minus, plus-pos, minus-pos, SumOf, above, below, sub-of, add-pos}
+use Rattle.ieee754.specs.Compare.{le-is}
+use Rattle.ieee754.specs.Exact.{Rep, rep-whole, round-rep, round-le, mul-exact, ofInt-pos}
+use Rattle.ieee754.specs.Root.{isqrt, rootOf, root}
+use Rattle.ieee754.specs.RootLaw.{isqrt-root, rootOf-is, rootOf-near, scale, wholeOf, stick, fits-in, zero-mag, root-near, Rooted, reach}
+
+-- ---- the root of a whole number n against a whole number t
+stick-cases : (r x y : ℕ) → r * r ≤ x → x ≤ y * y → 2 * r + stick r x ≤ 2 * y
+stick-cases r x y h k = go (ltb (r * r) x) (ltb→lt (r * r) x)
+  where
+    go : (b : Bool) → (T b → r * r < x) → 2 * r + cond b 1 0 ≤ 2 * y
+    go true f = let l : r < y = sq-lt-back r y (lt-of-lt-of-le (f tt) k) in omega arith
+    go false f = let l : r ≤ y = sq-le-back r y (le-trans h k) in omega arith
+
+-- a / c is n ≤ t * t
+rootOf-whole : (a c n t : ℕ) → 0 < a → 0 < c → a ≤ 2 ^ 100 * c → a ≡ n * c → n ≤ t * t → t < 2 ^ 53 → mag (rootOf a c) ≤ t * unit
+rootOf-whole a c n t A C S e h b =
+    let l = scale c in
+    let x = a * l * 2 ^ 54 in
+    let r = wholeOf a c in
+    let k : x ≤ t * l * (t * l) = le-trans (le-of-eq (area a c n (2 ^ 54) e)) (le-trans (mul-le-mul-right (l * l) h) (le-of-eq (square t l))) in
+    let s : 2 * r + stick r x ≤ 2 * (t * l) = stick-cases r x (t * l) (isqrt-root x .0) k in
+    subst (λ (z : Float). mag z ≤ t * unit) (sym (rootOf-is a c))
+    (round-le (2 * r + stick r x) (2 * l) (t * unit) (mul-pos (zero-lt-suc 1) (mul-pos C (pow-pos 54))) (rep-whole t b) (mul-le-mul-right unit (le-trans (le-of-lt b) (lit≤ tt))) (fits-in a c A C S)
+    (le-trans (mul-le-mul-right unit s) (le-of-eq (shape t l unit))))
+  where
+    area : (a c n P : ℕ) → a ≡ n * c → a * (c * P) * P ≡ n * (c * P * (c * P))
+    area a c n P e = ap (λ (z : ℕ). z * (c * P) * P) e ∙ again n c P
+      where
+        again : (n c P : ℕ) → n * c * (c * P) * P ≡ n * (c * P * (c * P))
+        again n c P = omega arith
+
+    square : (t l : ℕ) → t * t * (l * l) ≡ t * l * (t * l)
+    square t l = omega arith
+
+    shape : (t l u : ℕ) → 2 * (t * l) * u ≡ t * u * (2 * l)
+    shape t l u = omega arith
+
+-- a * u = M * c and M = n * u
+whole-fraction : (a u M c n : ℕ) → 0 < u → a * u ≡ M * c → M ≡ n * u → a ≡ n * c
+whole-fraction a u M c n U g m = eq-of-mul-eq-mul-right u U a (n * c) (g ∙ ap (λ (z : ℕ). z * c) m ∙ mul-right-comm n u c)
+
+pub root-whole-le : (x : Float) (n t : ℕ) → Good x → sign x ≡ false → mag x ≡ n * unit → n ≤ 2 ^ 100 → n ≤ t * t → t < 2 ^ 53 → mag (root x) ≤ t * unit
+unfolding root Good sign
+root-whole-le nan n t g s m b h k = absurd g
+root-whole-le (inf q) n t g s m b h k = absurd g
+root-whole-le (fin q zero e) n t g s m b h k = le-trans (le-of-eq (zero-mag q e)) (zero-le-any (t * unit))
+  where
+    zero-le-any : (n : ℕ) → 0 ≤ n
+    zero-le-any n = omega arith
+root-whole-le (fin true (suc j) e) n t g s m b h k = absurd (true≢false s)
+root-whole-le (fin false (suc j) e) n t g s m b h k =
+    rootOf-whole (suc j * up e) (down e) n t (mul-pos (zero-lt-suc j) (up-pos e)) (down-pos e)
+    (reach (suc j * up e) unit (mag (fin false (suc j) e)) (down e) (2 ^ 100) unit-pos g (le-trans (le-of-eq m) (mul-le-mul-right unit b)))
+    (whole-fraction (suc j * up e) unit (mag (fin false (suc j) e)) (down e) n unit-pos g m) h k
+
+too-far : (x z y : ℕ) → x ≤ 2 ^ 52 * y → 1 ≤ y → z ≤ x → 2 ^ 50 * (x + 2 ^ 18 * y) ≤ 2 ^ 50 * z + z + 2 ^ 50 → ⊥
+too-far x z y a b c d = omega arith
+
+-- where n is more than t * t the root is more than t
+pub root-whole-lt : (x : Float) (n t : ℕ) → Good x → sign x ≡ false → mag x ≡ n * unit → n ≤ 2 ^ 100 → t * t < n → t ≤ 2 ^ 16 → t * unit < mag (root x)
+root-whole-lt x n t g s m b h k = elim (lt-or-ge (t * unit) (mag (root x))) [ inl l ↦ l | inr l ↦ absurd (bad l) ]
+  where
+    κ : ℕ
+    κ = 2 ^ 18 * tiny
+
+    U : unit ≡ 2 ^ 18 * κ
+    U = unit-tiny ∙ split tiny
+      where
+        split : (y : ℕ) → 2 ^ 36 * y ≡ 2 ^ 18 * (2 ^ 18 * y)
+        split y = omega arith
+
+    square : (t u κ : ℕ) → u ≡ 2 ^ 18 * κ → t ≤ 2 ^ 16 → (t * u + κ) * (t * u + κ) ≤ (t * t + 1) * (u * u)
+    square t u κ e b =
+        let p : t * (u * κ) ≤ 2 ^ 16 * (u * κ) = mul-le-mul-right (u * κ) b in
+        let q : u * u ≡ 2 ^ 18 * (u * κ) = ap (λ (z : ℕ). u * z) e ∙ swap u κ in
+        let r : u * κ ≡ 2 ^ 18 * (κ * κ) = ap (λ (z : ℕ). z * κ) e ∙ mul-assoc (2 ^ 18) κ κ in
+        omega arith
+      where
+        swap : (u κ : ℕ) → u * (2 ^ 18 * κ) ≡ 2 ^ 18 * (u * κ)
+        swap u κ = omega arith
+
+    next : (t u M n : ℕ) → M ≡ n * u → t * t < n → (t * t + 1) * (u * u) ≤ M * u
+    next t u M n e h = le-trans (mul-le-mul-right (u * u) (one-more (t * t) n h)) (le-of-eq (sym (mul-assoc n u u) ∙ ap (λ (z : ℕ). z * u) (sym e)))
+      where
+        one-more : (a n : ℕ) → a < n → a + 1 ≤ n
+        one-more a n h = omega arith
+
+    no-way : (t u z y : ℕ) → u ≡ 2 ^ 36 * y → 2 ^ 60 ≤ y → t * u ≤ 2 ^ 16 * u → z ≤ t * u → 2 ^ 50 * (t * u + 2 ^ 18 * y) ≤ 2 ^ 50 * z + z + 2 ^ 50 → ⊥
+    no-way t u z y e l b h k = too-far (t * u) z y (le-trans b (le-of-eq (shape u y e))) (le-trans (lit≤ tt) l) h k
+      where
+        shape : (u y : ℕ) → u ≡ 2 ^ 36 * y → 2 ^ 16 * u ≡ 2 ^ 52 * y
+        shape u y e = omega arith
+
+    bad : mag (root x) ≤ t * unit → ⊥
+    bad l =
+        let r = root-near x g s (le-trans (le-of-eq m) (mul-le-mul-right unit b)) in
+        no-way t unit (mag (root x)) tiny unit-tiny tiny-large (mul-le-mul-right unit k) l (r .low (t * unit + κ) (le-trans (square t unit κ U k) (next t unit (mag x) n m h)))
+
+-- ---- whole floats squared and added
+like : (s : Bool) → unlike s s ≡ false
+like true = refl
+like false = refl
+
+pub whole-square : (d : Float) (k : ℕ) → k ≤ 2 ^ 17 → Good d → mag d ≡ k * unit → Is (mul binary64 d d) false (k * k * unit)
+whole-square d k b g e =
+    let i = mul-exact d d (k * k * unit) g g (ap (λ (n : ℕ). n * n) e ∙ shape k unit) (rep-whole (k * k) (lt-of-le-of-lt (mul-le-mul b b) (lit< tt))) (mul-le-mul-right unit (le-trans (mul-le-mul b b) (lit≤ tt))) in
+    record { good = i .good; mag-is = i .mag-is; sign-is = i .sign-is ∙ like (sign d) }
+  where
+    shape : (k u : ℕ) → k * u * (k * u) ≡ k * k * u * u
+    shape k u = omega arith
+
+pub whole-sum : (x y : Float) (a b : ℕ) → Is x false (a * unit) → Is y false (b * unit) → a + b < 2 ^ 53 → Is (add binary64 x y) false ((a + b) * unit)
+whole-sum x y a b i j h =
+    subst (λ (w : Float). Is w false ((a + b) * unit)) (sym (add-pos x y (i .good) (j .good) (i .sign-is) (j .sign-is) ∙ ap (λ (n : ℕ). round binary64 false n unit) (ap (λ (n : ℕ). n + mag y) (i .mag-is) ∙ ap (λ (n : ℕ). a * unit + n) (j .mag-is) ∙ sym (add-mul a b unit))))
+    (round-rep false ((a + b) * unit) (rep-whole (a + b) h) (mul-le-mul-right unit (le-trans (le-of-lt h) (lit≤ tt))))

@@ -1,0 +1,10 @@
+pub mod Lists
+pub mod Words
+pub mod ListLaws
+pub mod CountLaws
+pub mod OrderLaws
+pub mod GroupLaws
+pub mod WordLaws
+pub mod PartLaws
+pub mod LoopLaws
+pub mod Chains

@@ -1,0 +1,159 @@
+-- Loops over the numbers below n: a search, a count that may stop early, a column that is filled, what passes a test gathered.
+use mathlib.Core.Path.{_≡_, refl, sym, ap, ap₂, _∙_}
+use mathlib.Core.Bool.{Bool, true, false, cond}
+use mathlib.Core.List.{List, [], _∷_, _++_, append-nil}
+use Prim.Native.Nat.{ℕ, suc, _+_, _-_, _<_, _≤_}
+use native.Mathlib.Omega.{arith}
+use native.Mathlib.Nat.{zero-add}
+use native.Mathlib.Numerals.{add-one}
+use lib.Dec.{leb, leb→le, le→leb}
+use lib.ListN.{length, set, length-append}
+use Rattle.lists.specs.Lists.{from, numbers, keep, any, howMany, headOr}
+use Rattle.lists.specs.Words.{over, part, column, rest}
+use Rattle.lists.specs.ListLaws.{T-true, T-false, length-numbers}
+use Rattle.lists.specs.OrderLaws.{kept-snoc, kept-le}
+use Rattle.lists.specs.WordLaws.{over-length, over-nil, over-snoc}
+use Rattle.lists.specs.PartLaws.{part-under, part-above, column-snoc}
+
+-- ---- what is left of the numbers
+pub rest-start : (n : ℕ) → rest n 0 ≡ numbers n
+rest-start n = let e : n - 0 ≡ n = omega arith in ap numbers e
+
+pub rest-step : (n j : ℕ) → j < n → rest n j ≡ j ∷ rest n (j + 1)
+rest-step n j h =
+    let e : n - j ≡ suc (n - (j + 1)) = omega arith in
+    ap (from j) e ∙ ap (λ (z : ℕ). j ∷ from z (n - (j + 1))) (sym (add-one j))
+
+pub rest-end : (n j : ℕ) → n ≤ j → rest n j ≡ []
+rest-end n j h = let e : n - j ≡ 0 = omega arith in ap (from j) e
+
+module _ (f : ℕ → Bool) (n j : ℕ) (more : j < n) where
+  pub keep-hit : f j ≡ true → keep f (rest n j) ≡ j ∷ keep f (rest n (j + 1))
+  keep-hit e = rw (rest-step n j more, e)
+
+  pub keep-miss : f j ≡ false → keep f (rest n j) ≡ keep f (rest n (j + 1))
+  keep-miss e = rw (rest-step n j more, e)
+
+  pub any-hit : f j ≡ true → any f (rest n j) ≡ true
+  any-hit e = rw (rest-step n j more, e)
+
+  pub any-miss : f j ≡ false → any f (rest n j) ≡ any f (rest n (j + 1))
+  any-miss e = rw (rest-step n j more, e)
+
+-- ---- the first that passes f: `first` is what the search is for, d if there is none
+pub record Search (f : ℕ → Bool) (n d first j : ℕ) : Type 0 where
+  pub high : j ≤ n
+  pub left : headOr d (keep f (rest n j)) ≡ first
+
+module _ (f : ℕ → Bool) (n d : ℕ) where
+  pub search-start : Search f n d (headOr d (keep f (numbers n))) 0
+  search-start = record { high = omega arith; left = ap (λ (l : List ℕ). headOr d (keep f l)) (rest-start n) }
+
+  module _ {first j : ℕ} (c : Search f n d first j) where
+    pub search-hit : j < n → f j ≡ true → j ≡ first
+    search-hit h t = ap (headOr d) (sym (keep-hit f n j h t)) ∙ c .left
+
+    pub search-miss : j < n → f j ≡ false → Search f n d first (j + 1)
+    search-miss h t = record { high = omega arith; left = ap (headOr d) (sym (keep-miss f n j h t)) ∙ c .left }
+
+    pub search-end : n ≤ j → d ≡ first
+    search-end h = ap (λ (l : List ℕ). headOr d (keep f l)) (sym (rest-end n j h)) ∙ c .left
+
+-- ---- whether `least` pass f: m of those before j do
+pub record Tally (f : ℕ → Bool) (n least m j : ℕ) : Type 0 where
+  pub high : j ≤ n
+  pub sum : m + howMany f (rest n j) ≡ howMany f (numbers n)
+  pub low : m < least
+
+module _ (f : ℕ → Bool) (n least : ℕ) where
+  pub tally-start : 0 < least → Tally f n least 0 0
+  tally-start h = record { high = omega arith; sum = zero-add (howMany f (rest n 0)) ∙ ap (howMany f) (rest-start n); low = h }
+
+  module _ {m j : ℕ} (c : Tally f n least m j) where
+    pub tally-stop : j < n → f j ≡ true → least ≤ m + 1 → leb least (howMany f (numbers n)) ≡ true
+    tally-stop h t k = T-true (leb least (howMany f (numbers n))) (le→leb least (howMany f (numbers n)) (omega (arith, c .sum, ap length (keep-hit f n j h t))))
+
+    pub tally-hit : j < n → f j ≡ true → m + 1 < least → Tally f n least (m + 1) (j + 1)
+    tally-hit h t k = record { high = omega arith; sum = omega (arith, c .sum, ap length (keep-hit f n j h t)); low = k }
+
+    pub tally-miss : j < n → f j ≡ false → Tally f n least m (j + 1)
+    tally-miss h t = record { high = omega arith; sum = omega (arith, c .sum, ap length (keep-miss f n j h t)); low = c .low }
+
+    pub tally-end : n ≤ j → leb least (howMany f (numbers n)) ≡ false
+    tally-end h = T-false (leb least (howMany f (numbers n))) (λ t. omega (arith, leb→le least (howMany f (numbers n)) t, c .low, c .sum, ap (howMany f) (rest-end n j h)))
+
+-- ---- a column is filled
+pub record Fill {A : Type 0} (h : ℕ → A) (w₀ : List A) (a n : ℕ) (v : List A) (i : ℕ) : Type 0 where
+  pub fit : a + n ≤ length w₀
+  pub high : i ≤ n
+  pub work : v ≡ over w₀ a (column h i)
+
+pub fill-start : {A : Type 0} {h : ℕ → A} {w₀ : List A} {a n : ℕ} → a + n ≤ length w₀ → Fill h w₀ a n w₀ 0
+fill-start {A} {h} {w₀} {a} k = record { fit = k; high = omega arith; work = sym (over-nil w₀ a) }
+
+module _ {A : Type 0} {h : ℕ → A} {w₀ : List A} {a n : ℕ} {v : List A} {i : ℕ} (c : Fill h w₀ a n v i) where
+  pub fill-length : length v ≡ length w₀
+  fill-length = ap length (c .work) ∙ over-length w₀ a (column h i) (omega (arith, length-numbers h i, c .high, c .fit))
+
+  pub fill-step : i < n → (x : A) (k : ℕ) → k ≡ a + i → x ≡ h i → Fill h w₀ a n (set v k x) (i + 1)
+  fill-step m x k e f = record {
+    fit = c .fit;
+    high = omega arith;
+    work = ap₂ (λ (z : List A) (u : A). set z k u) (c .work) f
+        ∙ over-snoc w₀ a k (column h i) (h i) (omega (arith, length-numbers h i)) (omega (arith, c .fit))
+        ∙ ap (over w₀ a) (sym (column-snoc h i));
+  }
+
+  pub fill-under : (b m : ℕ) → b + m ≤ a → part v b m ≡ part w₀ b m
+  fill-under b m k = ap (λ (z : List A). part z b m) (c .work) ∙ part-under w₀ b m a (column h i) k (omega (arith, c .fit))
+
+  pub fill-above : (b m : ℕ) → a + n ≤ b → part v b m ≡ part w₀ b m
+  fill-above b m k = ap (λ (z : List A). part z b m) (c .work) ∙ part-above w₀ b m a (column h i) (omega (arith, length-numbers h i, c .high)) (omega (arith, c .fit))
+
+  pub fill-end : n ≤ i → v ≡ over w₀ a (column h n)
+  fill-end k = let e : i ≡ n = omega (arith, c .high) in c .work ∙ ap (λ (z : ℕ). over w₀ a (column h z)) e
+
+-- ---- the numbers that pass f are gathered: k so far
+pub record Gather (f : ℕ → Bool) (w₀ : List ℕ) (a n : ℕ) (v : List ℕ) (k i : ℕ) : Type 0 where
+  pub fit : a + n ≤ length w₀
+  pub high : i ≤ n
+  pub work : v ≡ over w₀ a (keep f (numbers i))
+  pub found : k ≡ length (keep f (numbers i))
+
+pub gather-start : {f : ℕ → Bool} {w₀ : List ℕ} {a n : ℕ} → a + n ≤ length w₀ → Gather f w₀ a n w₀ 0 0
+gather-start {f} {w₀} {a} h = record { fit = h; high = omega arith; work = sym (over-nil w₀ a); found = refl }
+
+module _ {f : ℕ → Bool} {w₀ : List ℕ} {a n : ℕ} {v : List ℕ} {k i : ℕ} (c : Gather f w₀ a n v k i) where
+  abbrev K : List ℕ
+  K = keep f (numbers i)
+
+  pub gather-low : k ≤ i
+  gather-low = omega (arith, c .found, kept-le f i)
+
+  pub gather-length : length v ≡ length w₀
+  gather-length = ap length (c .work) ∙ over-length w₀ a K (omega (arith, kept-le f i, c .high, c .fit))
+
+  pub gather-under : (b m : ℕ) → b + m ≤ a → part v b m ≡ part w₀ b m
+  gather-under b m h = ap (λ (z : List ℕ). part z b m) (c .work) ∙ part-under w₀ b m a K h (omega (arith, c .fit))
+
+  pub gather-hit : i < n → f i ≡ true → Gather f w₀ a n (set v (a + k) i) (k + 1) (i + 1)
+  gather-hit h t =
+      let e : keep f (numbers (i + 1)) ≡ K ++ (i ∷ []) = kept-snoc f i ∙ ap (λ (b : Bool). K ++ cond b (i ∷ []) []) t in
+      record {
+        fit = c .fit;
+        high = omega arith;
+        work = ap (λ (z : List ℕ). set z (a + k) i) (c .work)
+            ∙ over-snoc w₀ a (a + k) K i (omega (arith, c .found)) (omega (arith, c .found, kept-le f i, c .fit))
+            ∙ ap (over w₀ a) (sym e);
+        found = omega (arith, c .found, ap length e, length-append K (i ∷ []));
+      }
+
+  pub gather-miss : i < n → f i ≡ false → Gather f w₀ a n v k (i + 1)
+  gather-miss h t =
+      let e : keep f (numbers (i + 1)) ≡ K = kept-snoc f i ∙ ap (λ (b : Bool). K ++ cond b (i ∷ []) []) t ∙ append-nil K in
+      record { fit = c .fit; high = omega arith; work = c .work ∙ ap (over w₀ a) (sym e); found = c .found ∙ ap length (sym e) }
+
+  pub gather-end : n ≤ i → (k ≡ length (keep f (numbers n))) × (v ≡ over w₀ a (keep f (numbers n)))
+  gather-end h =
+      let e : i ≡ n = omega (arith, c .high) in
+      (c .found ∙ ap (λ (z : ℕ). length (keep f (numbers z))) e, c .work ∙ ap (λ (z : ℕ). over w₀ a (keep f (numbers z))) e)

@@ -1,0 +1,9 @@
+pub mod Int
+pub mod Poly
+pub mod Ring
+pub mod Order
+pub mod Linear
+pub mod Abs
+pub mod PowTwo
+pub mod InnerProduct
+pub mod Examples
