@@ -1,5 +1,8 @@
 // The box of a frame at each level, and the test of a box against a frame.
 
+pub mod boxes;
+pub mod grid;
+
 // A box: its centre, of which the first coordinates up to the number of channels count, and its side.
 pub struct Box {
     pub centre: [f64; 4],

@@ -1,98 +1,92 @@
--- A step of the whole root, for any base: what `more_digits` needs. Assumes nothing.
-use mathlib.Core.Path.{_≡_, refl, sym, ap, _∙_, subst}
-use Prim.Native.Nat.{ℕ, zero, suc, _+_, _-_, _*_, _/_, _%_, _≤_, _<_}
-use native.Mathlib.Nat.{mul-le-mul, div-add-mod', div-div-eq-div-mul, mod-lt}
+-- A step to more digits of a whole root, for any base: one division, and at most one correction. What `more_digits` and `all_digits` need.
+use mathlib.Core.Path.{_≡_, sym, ap, _∙_, subst}
+use Prim.Native.Nat.{ℕ, zero, suc, _+_, _-_, _*_, _/_, _%_, _^_, _≤_, _<_}
+use native.Mathlib.Nat.{le-trans, mul-le-mul, mul-le-mul-right, lt-of-mul-lt-mul-right, div-add-mod', div-div-eq-div-mul, mod-lt}
 use native.Mathlib.Omega.{arith}
-use Rattle.ieee754.specs.Norm.{sq-mono, sq-lt-back}
-use Rattle.ieee754.specs.Steps.{Root, step-sum, step-digit, step-high, step-low}
-use Rattle.ieee754.specs.Room.{Room}
+use Rattle.ieee754.specs.Steps.{Root, Room, root-from, root-below}
 
--- the whole root of a number between two squares
-pub root-from : (n s l : ℕ) → Root n s → l * l ≤ n → l ≤ s
-root-from n s l r h = let k : l < s + 1 = sq-lt-back l (s + 1) (omega arith) in omega arith
+-- ---- h is s² and the rest r; r b + a divided by 2 s is q, and u is left
+module _ (h s b a c r q u : ℕ) (M : Room s b a c) (e : h ≡ s * s + r) (d : r * b + a ≡ q * (2 * s) + u) where
+  -- the quotient has no more digits than b, or is b
+  quotient-le : r ≤ 2 * s → q ≤ b
+  quotient-le R =
+      let x : r * b ≤ 2 * s * b = mul-le-mul-right b R in
+      let y : q < suc b = lt-of-mul-lt-mul-right (2 * s) (omega arith) in
+      omega arith
 
-pub root-below : (n s l : ℕ) → Root n s → n < l * l → s < l
-root-below n s l r h = sq-lt-back s l (omega arith)
+  -- n = (s b + q)² + (u b + c - q²)
+  sum : h * (b * b) + a * b + c + q * q ≡ (s * b + q) * (s * b + q) + u * b + c
+  sum =
+      let x : h * (b * b) ≡ (s * s + r) * (b * b) = ap (λ (z : ℕ). z * (b * b)) e in
+      let y : (r * b + a) * b ≡ (q * (2 * s) + u) * b = ap (λ (z : ℕ). z * b) d in
+      omega arith
 
+  -- s b + q is never too small
+  right : u < 2 * s → q * q ≤ u * b + c → Root (h * (b * b) + a * b + c) (s * b + q)
+  right U k =
+      let x = sum in
+      let y : suc u * b ≤ 2 * s * b = mul-le-mul-right b U in
+      omega arith
+
+-- and where it is too large, one less is right
+one-less : (h s b a c r q u : ℕ) → Room s b a c → h ≡ s * s + r → r * b + a ≡ q * (2 * s) + u → q ≤ b → u * b + c < q * q → (0 < q) × Root (h * (b * b) + a * b + c) (s * b + q - 1)
+one-less h s b a c r zero u M e d Q k = absurd (omega arith)
+one-less h s b a c r (suc q) u M e d Q k =
+    let x = sum h s b a c r (suc q) u M e d in
+    let y : suc q * suc q ≤ b * (2 * s) = mul-le-mul Q (le-trans Q (M .wide)) in
+    let p : s * b + suc q - 1 ≡ s * b + q = omega arith in
+    (omega arith, subst (Root (h * (b * b) + a * b + c)) (sym p) (omega arith))
+
+-- ---- as the program takes it
 module _ {h s b a c : ℕ} (R : Root h s) (M : Room s b a c) where
-  -- the rest, the quotient and the remainder
-  abbrev pub restOf : ℕ
-  restOf = h - s * s
+  abbrev rest : ℕ
+  rest = h - s * s
 
-  abbrev pub digit : ℕ
-  digit = (restOf * b + a) / (2 * s)
+  abbrev quotient : ℕ
+  quotient = (rest * b + a) / (2 * s)
 
-  abbrev pub left : ℕ
-  left = (restOf * b + a) % (2 * s)
+  abbrev remainder : ℕ
+  remainder = (rest * b + a) % (2 * s)
 
-  sum-is : h ≡ s * s + restOf
-  sum-is = omega arith
+  rest-is : h ≡ s * s + rest
+  rest-is = omega arith
 
-  pub rest-le : restOf ≤ 2 * s
+  rest-le : rest ≤ 2 * s
   rest-le = omega arith
 
-  division : restOf * b + a ≡ digit * (2 * s) + left
-  division = sym (div-add-mod' (restOf * b + a) (2 * s))
+  division : rest * b + a ≡ quotient * (2 * s) + remainder
+  division = sym (div-add-mod' (rest * b + a) (2 * s))
 
-  pub some : 0 < 2 * s
-  some = omega arith
+  remainder-lt : remainder < 2 * s
+  remainder-lt = mod-lt (rest * b + a) (omega arith)
 
-  pub left-lt : left < 2 * s
-  left-lt = mod-lt (restOf * b + a) some
+  pub digit-le : quotient ≤ b
+  digit-le = quotient-le h s b a c rest quotient remainder M rest-is division rest-le
 
-  pub digit-le : digit ≤ b
-  digit-le = step-digit s restOf b a digit left rest-le (M .first) (M .wide) division
+  pub rest-fits : rest * b ≤ 2 ^ 33 * 2 ^ 22
+  rest-fits = mul-le-mul {n₂ = 2 ^ 33} (omega (arith, rest-le)) (M .few)
 
-  pub rest-fits : restOf * b ≤ 8589934592 * 4194304
-  rest-fits = mul-le-mul {n₂ = 8589934592} (omega (arith, rest-le)) (M .few)
+  pub root-fits : s * b ≤ 2 ^ 32 * 2 ^ 22
+  root-fits = mul-le-mul {n₂ = 2 ^ 32} (omega arith) (M .few)
 
-  pub root-fits : s * b ≤ 4294967296 * 4194304
-  root-fits = mul-le-mul {n₂ = 4294967296} (omega arith) (M .few)
+  pub left-fits : remainder * b ≤ 2 ^ 33 * 2 ^ 22
+  left-fits = mul-le-mul {n₂ = 2 ^ 33} (omega (arith, remainder-lt)) (M .few)
 
-  pub left-fits : left * b ≤ 8589934592 * 4194304
-  left-fits = mul-le-mul {n₂ = 8589934592} (omega (arith, left-lt)) (M .few)
+  pub square-fits : quotient * quotient ≤ 2 ^ 22 * 2 ^ 22
+  square-fits = mul-le-mul {n₂ = 2 ^ 22} {m₂ = 2 ^ 22} (omega (arith, digit-le)) (omega (arith, digit-le))
 
-  pub square-fits : digit * digit ≤ 4194304 * 4194304
-  square-fits = mul-le-mul {n₂ = 4194304} {m₂ = 4194304} (omega (arith, digit-le)) (omega (arith, digit-le))
+  pub keep : quotient * quotient ≤ remainder * b + c → Root (h * (b * b) + a * b + c) (s * b + quotient)
+  keep = right h s b a c rest quotient remainder M rest-is division remainder-lt
 
-  whole : h * (b * b) + a * b + c + digit * digit ≡ (s * b + digit) * (s * b + digit) + left * b + c
-  whole = step-sum h s restOf b a c digit left sum-is division
-
-  pub keep : digit * digit ≤ left * b + c → Root (h * (b * b) + a * b + c) (s * b + digit)
-  keep k = (under (h * (b * b) + a * b + c) (digit * digit) ((s * b + digit) * (s * b + digit)) (left * b) whole k, step-high h s restOf b a c digit left sum-is division left-lt (M .second))
-    where
-      under : (n x m y : ℕ) → n + x ≡ m + y + c → x ≤ y + c → m ≤ n
-      under n x m y e k = omega arith
-
-  pub positive : left * b + c < digit * digit → 0 < digit
-  positive k = go digit k
-    where
-      go : (q : ℕ) → left * b + c < q * q → 0 < q
-      go zero k = absurd (bad (left * b + c) k)
-        where
-          bad : (w : ℕ) → w < 0 * 0 → ⊥
-          bad w h = omega arith
-      go (suc q) k = omega arith
-
-  pub less : left * b + c < digit * digit → Root (h * (b * b) + a * b + c) (s * b + digit - 1)
-  less k =
-      let P = positive k in (
-        step-low h s restOf b a c digit left sum-is division digit-le (M .wide) P,
-        subst (λ (z : ℕ). h * (b * b) + a * b + c < z * z) (sym (back (s * b) digit P)) (over (h * (b * b) + a * b + c) (digit * digit) ((s * b + digit) * (s * b + digit)) (left * b) whole k),
-      )
-    where
-      back : (m q : ℕ) → 0 < q → m + q - 1 + 1 ≡ m + q
-      back m q h = omega arith
-
-      over : (n x m y : ℕ) → n + x ≡ m + y + c → y + c < x → n < m
-      over n x m y e k = omega arith
+  pub less : remainder * b + c < quotient * quotient → (0 < quotient) × Root (h * (b * b) + a * b + c) (s * b + quotient - 1)
+  less = one-less h s b a c rest quotient remainder M rest-is division digit-le
 
 -- ---- the steps from 8 digits to 16, 32 and 54: n lies between the squares of l and h
-pub room : (l h : ℕ) {n s b a c : ℕ} → Root n s → l * l ≤ n → n < h * h → h ≤ 4294967296 → b ≤ 4194304 → b ≤ 2 * l → a < b → c < b → Room s b a c
-room l h {n} {s} R lo hi H B w A C =
-    let x = root-from n s l R lo in
-    let y = root-below n s h R hi in
-    record { short = omega arith; few = B; wide = omega arith; first = A; second = C }
+pub room : (l h : ℕ) {n s b a c : ℕ} → Root n s → (l * l ≤ n) × (n < h * h) × (h ≤ 2 ^ 32) × (b ≤ 2 ^ 22) × (b ≤ 2 * l) × (a < b) × (c < b) → Room s b a c
+room l h {n} {s} R k =
+    let x = root-from n s l R (k .0) in
+    let y = root-below n s h R (k .1) in
+    record { short = omega arith; few = omega arith; wide = omega arith; first = omega arith; second = omega arith }
 
 -- m is its digits above, and two to the base b
 pub joined : (b m s : ℕ) → Root (m / (b * b) * (b * b) + m / b % b * b + m % b) s → Root m s

@@ -1,14 +1,11 @@
--- The errors of one operation, and of an index and its box's centre, in absolute terms: in `tiny`, 2 ^ -60. Assumes nothing.
-use mathlib.Core.Path.{_≡_, refl, sym, ap, _∙_, subst}
-use Prim.Native.Nat.{ℕ, zero, suc, _+_, _-_, _*_, _/_, _%_, _^_, _≤_, _<_}
-use native.Mathlib.Nat.{le-trans, le-of-eq, le-refl, mul-le-mul, mul-le-mul-left, mul-le-mul-right, mul-pos, mul-assoc, mul-comm, add-assoc, le-of-mul-le-mul-right}
+-- Errors in absolute terms, of one operation and of a cell's index and centre: in `tiny`, 2 ^ -36.
+use mathlib.Core.Path.{_≡_}
+use Prim.Native.Nat.{ℕ, _+_, _*_, _^_, _≤_, _<_}
+use native.Mathlib.Nat.{le-trans, le-of-eq, mul-le-mul-right, add-assoc, le-of-mul-le-mul-right}
 use native.Mathlib.Omega.{arith}
-use lib.Ieee.{Float, binary64}
-use Rattle.ieee754.specs.Value.{unit, unit-pos, tiny, unit-tiny, tiny-large, mag, sign, Good, Close, Rounded}
+use lib.Ieee.{Float}
+use Rattle.ieee754.specs.Value.{unit, unit-pos, tiny, unit-tiny, tiny-large, Close}
 use Rattle.ieee754.specs.Ops.{plus, minus, Approx, close-cancel}
-
-pub tiny-pos : 1 ≤ tiny
-tiny-pos = omega (arith, tiny-large)
 
 shrink : (p q e T : ℕ) → 2 ^ 53 * p ≤ 2 ^ 53 * q + e → e ≤ 2 ^ 53 * T → p ≤ q + T
 shrink p q e T c h = omega arith

@@ -1,24 +1,24 @@
--- Where an operation is exact, and that rounding keeps the order, in units. Assumes nothing.
+-- The numbers of units that the format holds, `Rep`: where an operation is exact, and that rounding keeps their order.
 use mathlib.Core.Path.{_≡_, refl, sym, ap, _∙_, subst}
-use mathlib.Core.Logic.{_⊎_, inl, inr}
-use mathlib.Core.Bool.{Bool, true, false, not, _&&_, cond}
+use mathlib.Core.Bool.{Bool, true, false, _&&_}
 use Prim.Native.Nat.{ℕ, zero, suc, _+_, _-_, _*_, _/_, _%_, _^_, _≤_, _<_}
-use native.Mathlib.Nat.{le-trans, le-of-eq, le-refl, lt-of-le-of-lt, lt-of-lt-of-le, mul-le-mul, mul-le-mul-left, mul-le-mul-right, mul-pos, mul-assoc, mul-comm, mul-one, div-one, mul-div-cancel, le-of-mul-le-mul-right, mul-right-comm, le-of-suc-le-suc, lt-of-not-le, lt-irrefl, zero-mul, sub-add-cancel}
+use native.Mathlib.Nat.{lt-of-le-of-lt, lt-of-lt-of-le, mul-le-mul-right, mul-pos, mul-assoc, mul-one, mul-div-cancel, div-lt-iff-lt-mul, mul-lt-mul-of-pos-right, le-of-eq, zero-mul}
 use native.Mathlib.Omega.{arith}
-use lib.IntN.{ℤ, pos, negsuc}
-use lib.Dec.{T, leb, ltb, eqb, leb→le, ltb→lt, lit<, lit≤}
-use lib.Pow.{pow-add, pow-pos, pow-mono, pow-lt}
-use lib.Ieee.{Float, nan, inf, fin, Format, binary64, prec, emax, low, up, down, round, fits, le, unlike, mul, div, add, sub, ofInt}
-use lib.Ieee.Fits.{up-pos, down-pos, and-l, and-r, round-fits}
+use lib.IntN.{pos, negsuc}
+use lib.Dec.{T, leb, ltb, eqb, leb→le, ltb→lt, lit<}
+use lib.Pow.{pow-add, pow-pos}
+use lib.Ieee.{Float, nan, inf, fin, binary64, up, down, round, fits, le, unlike, mul, div, ofInt}
+use lib.Ieee.Fits.{down-pos}
 use lib.Ieee.Exact.{HasValue, round-exact}
 use lib.Ieee.Back.{round-whole}
 use lib.Ieee.Order.{round-mono}
 use lib.Ieee.Scale.{round-same, finite}
-use Rattle.ieee754.specs.Value.{unit, unit-pos, mag, sign, Good, Is, of-value, to-value, Close, Rounded, round-near}
-use Rattle.ieee754.specs.Ops.{plus, minus, plus-pos, minus-pos, plus-neg, minus-neg, SumOf, above, below, near-units, mul-of, div-of}
+use Rattle.ieee754.specs.Norm.{pow-le-back, pow-split}
+use Rattle.ieee754.specs.Value.{unit, unit-pos, mag, sign, Good, Is, of-value, round-near}
+use Rattle.ieee754.specs.Ops.{plus, minus, plus-pos, minus-pos, plus-neg, SumOf, above, below, near-units, mul-of, div-of}
 use Rattle.ieee754.specs.Compare.{le-is}
 
--- ---- numbers of units that the format holds
+-- n has at most 53 binary digits before its zeros
 pub record Rep (n : ℕ) : Type 0 where
   pub digits : ℕ
   pub places : ℕ
@@ -38,7 +38,7 @@ round-rep s n r h =
     (ap (λ (x : ℕ). x * 2 ^ 1074) (r .is)))
 
 -- ---- order
-pub positive-mag : (x y : Float) → Good x → Good y → sign x ≡ false → sign y ≡ false → T (le x y) → mag x ≤ mag y
+positive-mag : (x y : Float) → Good x → Good y → sign x ≡ false → sign y ≡ false → T (le x y) → mag x ≤ mag y
 positive-mag x y g k s t l =
     let h : plus x + minus y ≤ plus y + minus x = leb→le (plus x + minus y) (plus y + minus x) (subst T (le-is x y g k) l) in
     let a = plus-pos x s in
@@ -47,20 +47,13 @@ positive-mag x y g k s t l =
     let d = minus-pos y t in
     omega arith
 
--- a fraction no larger than a number that the format holds rounds to no more; one no smaller, to no less
+-- a fraction no larger than a number that the format holds rounds to no more
 pub round-le : (num den K : ℕ) → 0 < den → Rep K → K ≤ 2 ^ 100 * unit → num ≤ 2 ^ 100 * den → num * unit ≤ K * den → mag (round binary64 false num den) ≤ K
 round-le num den K D r b n h =
     let x = round-near false num den D n in
     let y = round-rep false K r b in
     subst (λ (w : ℕ). mag (round binary64 false num den) ≤ w) (y .mag-is)
     (positive-mag (round binary64 false num den) (round binary64 false K unit) (x .good) (y .good) (x .sign-is) (y .sign-is) (round-mono binary64 num den K unit D unit-pos h))
-
-pub round-ge : (num den K : ℕ) → 0 < den → Rep K → K ≤ 2 ^ 100 * unit → num ≤ 2 ^ 100 * den → K * den ≤ num * unit → K ≤ mag (round binary64 false num den)
-round-ge num den K D r b n h =
-    let x = round-near false num den D n in
-    let y = round-rep false K r b in
-    subst (λ (w : ℕ). w ≤ mag (round binary64 false num den)) (y .mag-is)
-    (positive-mag (round binary64 false K unit) (round binary64 false num den) (y .good) (x .good) (y .sign-is) (x .sign-is) (round-mono binary64 K unit num den unit-pos D h))
 
 -- ---- sums
 -- z ≤ K if A - B is
@@ -74,46 +67,6 @@ sum-le z A B K (below n e d) r b h i =
     let x = near-units true n (omega arith) in
     let p = plus-neg z (subst (λ (w : Float). sign w ≡ true) (sym e) (x .sign-is)) in
     omega arith
-
--- z ≥ K if A - B is
-pub sum-ge : (z : Float) (A B K : ℕ) → SumOf z A B → Rep K → A ≤ B + 2 ^ 100 * unit → B + K ≤ A → minus z + K ≤ plus z
-sum-ge z A B K (above n e d) r b h =
-    let x = near-units false n (omega arith) in
-    let m : K ≤ mag z = subst (λ (w : Float). K ≤ mag w) (sym e) (round-ge n unit K unit-pos r (omega arith) (omega arith) (mul-le-mul-right unit (omega arith))) in
-    let p = plus-pos z (subst (λ (w : Float). sign w ≡ false) (sym e) (x .sign-is)) in
-    let q = minus-pos z (subst (λ (w : Float). sign w ≡ false) (sym e) (x .sign-is)) in
-    omega arith
-sum-ge z A B K (below n e d) r b h =
-    let x = near-units true n (omega arith) in
-    let c = x .close in
-    let m : mag z ≡ mag (round binary64 true n unit) = ap mag e in
-    let q = minus-neg z (subst (λ (w : Float). sign w ≡ true) (sym e) (x .sign-is)) in
-    let n0 : n ≡ 0 = omega arith in
-    omega arith
-
-pub record Exactly (z : Float) (A B : ℕ) : Type 0 where
-  pub good : Good z
-  pub is : plus z + B ≡ A + minus z
-
-pub sum-exact : (z : Float) (A B n : ℕ) → SumOf z A B → Rep n → n ≤ 2 ^ 100 * unit → (A ≡ B + n) ⊎ (B ≡ A + n) → Exactly z A B
-sum-exact z A B n (above k e d) r b w =
-    let i = subst (λ (x : Float). Is x false k) (sym e) (round-rep false k (subst Rep (same w) r) (omega (arith, same w))) in
-    let p = plus-pos z (i .sign-is) in
-    let q = minus-pos z (i .sign-is) in
-    record { good = i .good; is = omega (arith, i .mag-is) }
-  where
-    same : (A ≡ B + n) ⊎ (B ≡ A + n) → n ≡ k
-    same (inl h) = omega arith
-    same (inr h) = omega arith
-sum-exact z A B n (below k e d) r b w =
-    let i = subst (λ (x : Float). Is x true k) (sym e) (round-rep true k (subst Rep (same w) r) (omega (arith, same w))) in
-    let p = plus-neg z (i .sign-is) in
-    let q = minus-neg z (i .sign-is) in
-    record { good = i .good; is = omega (arith, i .mag-is) }
-  where
-    same : (A ≡ B + n) ⊎ (B ≡ A + n) → n ≡ k
-    same (inl h) = omega arith
-    same (inr h) = omega arith
 
 -- ---- products and quotients
 pub mul-exact : (x y : Float) (n : ℕ) → Good x → Good y → mag x * mag y ≡ n * unit → Rep n → n ≤ 2 ^ 100 * unit → Is (mul binary64 x y) (unlike (sign x) (sign y)) n
@@ -146,8 +99,8 @@ unfolding ofInt
 ofInt-neg n h = of-value (round binary64 true (suc n) 1) true (suc n * unit) (whole-value (round binary64 true (suc n) 1) true (suc n) (round-whole binary64 true (suc n) h))
 
 -- ---- every value of the format is such a number of units
-tests : (a b c d : Bool) → T (a && b && c && d) → T b × T c
-tests true true true d h = (tt, tt)
+tests : (a b c d : Bool) → T (a && b && c && d) → T b × T c × T d
+tests true true true d h = (tt, tt, h)
 tests false b c d h = absurd h
 tests true false c d h = absurd h
 tests true true false d h = absurd h
@@ -156,9 +109,6 @@ good-from : (a u d n : ℕ) → 0 < d → a * u ≡ n * d → Rep n → (a * u �
 good-from a u d n D h r =
     let q : a * u / d ≡ n = ap (λ (z : ℕ). z / d) h ∙ mul-div-cancel n D in
     (h ∙ ap (λ (z : ℕ). z * d) (sym q), subst Rep (sym q) r)
-
-pow-le-back : (a l : ℕ) → 2 ^ a ≤ 2 ^ l → a ≤ l
-pow-le-back a l h = le-of-suc-le-suc (lt-of-not-le (λ (g : suc l ≤ a). lt-irrefl (2 ^ l) (lt-of-lt-of-le (pow-lt g) h)))
 
 pub fits-good : (x : Float) → T (fits binary64 x) → T (finite x) → Good x × Rep (mag x)
 unfolding fits Good mag unit
@@ -174,5 +124,21 @@ fits-good (fin s (suc m) (negsuc k)) f t =
     let p = tests (eqb (suc m % 2) 1) (ltb (suc m) (2 ^ 53)) (leb (2 ^ suc k) (2 ^ 1074)) (ltb (suc m * 1) (2 ^ 1024 * 2 ^ suc k)) f in
     let l : suc k ≤ 1074 = pow-le-back (suc k) 1074 (leb→le (2 ^ suc k) (2 ^ 1074) (p .1)) in
     good-from (suc m * 1) unit (2 ^ suc k) (suc m * 2 ^ (1074 - suc k)) (pow-pos (suc k))
-    (ap (λ (z : ℕ). z * 2 ^ 1074) (mul-one (suc m)) ∙ ap (λ (z : ℕ). suc m * 2 ^ z) (sym (sub-add-cancel l)) ∙ ap (λ (z : ℕ). suc m * z) (pow-add 2 (1074 - suc k) (suc k)) ∙ sym (mul-assoc (suc m) (2 ^ (1074 - suc k)) (2 ^ suc k)))
+    (ap (λ (z : ℕ). z * 2 ^ 1074) (mul-one (suc m)) ∙ ap (λ (z : ℕ). suc m * z) (pow-split l) ∙ sym (mul-assoc (suc m) (2 ^ (1074 - suc k)) (2 ^ suc k)))
     (record { digits = suc m; places = 1074 - suc k; few = ltb→lt (suc m) (2 ^ 53) (p .0); is = refl })
+
+-- and is below the top of the format
+pub fits-below : (x : Float) → T (fits binary64 x) → T (finite x) → mag x < 2 ^ 2098
+unfolding fits mag unit
+fits-below nan f t = absurd t
+fits-below (inf s) f t = absurd t
+fits-below (fin s zero e) f t = div-lt-iff-lt-mul (down-pos e) .1 (lt-of-le-of-lt (le-of-eq (none (up e) (2 ^ 1074))) (mul-pos (pow-pos 2098) (down-pos e)))
+  where
+    none : (u w : ℕ) → 0 * u * w ≡ 0
+    none u w = omega arith
+fits-below (fin s (suc m) e) f t =
+    let h = ltb→lt (suc m * up e) (2 ^ 1024 * down e) (tests (eqb (suc m % 2) 1) (ltb (suc m) (2 ^ 53)) (leb (down e) (2 ^ 1074)) (ltb (suc m * up e) (2 ^ 1024 * down e)) f .2) in
+    div-lt-iff-lt-mul (down-pos e) .1 (lt-of-lt-of-le (mul-lt-mul-of-pos-right h (pow-pos 1074)) (le-of-eq (shape (2 ^ 1024) (down e) (2 ^ 1074))))
+  where
+    shape : (a d u : ℕ) → a * d * u ≡ a * u * d
+    shape a d u = omega arith

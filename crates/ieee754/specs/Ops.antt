@@ -1,15 +1,13 @@
 -- What each operation on finite binary64 values comes to, in units: its error is at most 2 ^ -53 of its exact result, and half a unit.
--- A signed value is `plus` - `minus`, one of which is 0, so that every statement is one about natural numbers. Assumes nothing.
+-- A signed value is `plus` - `minus`, one of which is 0, so that every statement is one about natural numbers.
 use mathlib.Core.Path.{_≡_, refl, sym, ap, _∙_, subst, subst₂}
-use mathlib.Core.Logic.{_⊎_, inl, inr}
-use mathlib.Core.Bool.{Bool, true, false, not, _&&_, Bool·beq, cond, true≢false}
-use Prim.Native.Nat.{ℕ, zero, suc, _+_, _-_, _*_, _/_, _%_, _^_, _≤_, _<_}
-use native.Mathlib.Nat.{le-trans, le-of-eq, le-refl, lt-of-le-of-lt, lt-of-lt-of-le, mul-le-mul, mul-le-mul-left, mul-le-mul-right, mul-pos, eq-zero-or-pos, mul-assoc, mul-comm, mul-one, mul-right-comm, le-of-mul-le-mul-right, eq-of-mul-eq-mul-right, mul-mul-mul-comm, mul-sub, mul-lt-mul-of-pos-right, le-of-lt, lt-irrefl, not-le-of-lt}
+use mathlib.Core.Bool.{Bool, true, false, not, cond, true≢false}
+use Prim.Native.Nat.{ℕ, _+_, _-_, _*_, _^_, _≤_, _<_}
+use native.Mathlib.Nat.{le-trans, le-of-eq, mul-le-mul-right, mul-pos, mul-assoc, mul-comm, le-of-mul-le-mul-right, eq-of-mul-eq-mul-right, mul-mul-mul-comm, mul-sub, mul-lt-mul-of-pos-right, le-of-lt, lt-irrefl, not-le-of-lt}
 use native.Mathlib.Omega.{arith}
-use lib.IntN.{ℤ, pos, negsuc}
-use lib.Dec.{T, ltb, eqb, ltb→lt, nltb→le, lit<, lit≤, eqb→eq}
-use lib.Ieee.{Float, nan, inf, fin, Format, binary64, up, down, round, neg, sum, add, sub, mul, div, unlike}
-use lib.Ieee.Fits.{up-pos, down-pos}
+use lib.Dec.{T, ltb, eqb, ltb→lt, nltb→le, eqb→eq}
+use lib.Ieee.{Float, nan, inf, fin, binary64, up, down, round, neg, sum, add, sub, mul, div, unlike}
+use lib.Ieee.Fits.{down-pos}
 use lib.Ieee.Scale.{round-same}
 use lib.Ieee.Positive.{first-pos}
 use Rattle.ieee754.specs.Value.{unit, unit-pos, mag, sign, Good, Close, Rounded, round-near}
@@ -45,13 +43,13 @@ mag-parts x = go (sign x)
     go true = omega arith
     go false = omega arith
 
--- |z - (A - B)| * 2 ^ 53 ≤ e
+-- z is A - B, but for e / 2 ^ 53
 pub record Approx (z : Float) (A B e : ℕ) : Type 0 where
   pub good : Good z
   pub high : 2 ^ 53 * (plus z + B) ≤ 2 ^ 53 * (A + minus z) + e
   pub low : 2 ^ 53 * (A + minus z) ≤ 2 ^ 53 * (plus z + B) + e
 
--- ---- fractions of which numerator and denominator have a factor in common
+-- ---- a factor that numerator and denominator have in common
 pub close-cancel : (r n den k : ℕ) → 0 < k → Close r (n * k) (den * k) → Close r n den
 close-cancel r n den k K c = (
   le-of-mul-le-mul-right {k = k} (omega arith) K,
@@ -117,7 +115,7 @@ module _ (a b c x y : ℕ) (C : 0 < c) (p : a * unit ≡ x * c) (q : b * unit �
   other-sign s = round-same binary64 s (a - b) c (x - y) unit C unit-pos (diff a b c x y p q)
 
 -- A - B is the exact sum
-pub sum-of : (s t : Bool) (a b c x y A B : ℕ) → 0 < c → a * unit ≡ x * c → b * unit ≡ y * c
+sum-of : (s t : Bool) (a b c x y A B : ℕ) → 0 < c → a * unit ≡ x * c → b * unit ≡ y * c
     → A ≡ cond s 0 x + cond t 0 y → B ≡ cond s x 0 + cond t y 0 → SumOf (sum binary64 s a t b c) A B
 unfolding sum
 sum-of false false a b c x y A B C p q i j = above (x + y) (same-sign a b c x y C p q false) (omega arith)

@@ -1,19 +1,18 @@
--- The correctly rounded root against whole-number squares. Assumes nothing.
+-- The rounded root against whole-number squares: where K² is at least, or at most, the square of the exact root in units, K is so of the rounded root, but for 2 ^ -50 of it and a unit.
 use mathlib.Core.Path.{_≡_, refl, sym, ap, _∙_, subst}
-use mathlib.Core.Logic.{_⊎_, inl, inr}
 use mathlib.Core.Bool.{Bool, true, false, not, cond, true≢false}
-use Prim.Native.Nat.{ℕ, zero, suc, _+_, _-_, _*_, _/_, _%_, _^_, _≤_, _<_}
-use native.Mathlib.Nat.{le-trans, le-of-eq, le-refl, lt-of-le-of-lt, lt-of-lt-of-le, mul-le-mul, mul-le-mul-left, mul-le-mul-right, mul-lt-mul-of-pos-right, mul-pos, mul-assoc, mul-comm, pow-suc, div-lt-iff-lt-mul, zero-lt-suc, not-le-of-lt, le-of-mul-le-mul-right, mul-mul-mul-comm, zero-mul, zero-div}
+use Prim.Native.Nat.{ℕ, zero, suc, _+_, _*_, _/_, _^_, _≤_, _<_}
+use native.Mathlib.Nat.{le-trans, le-of-eq, lt-of-le-of-lt, lt-of-lt-of-le, mul-le-mul, mul-le-mul-right, mul-pos, pow-suc, div-lt-iff-lt-mul, zero-lt-suc, le-of-mul-le-mul-right, zero-mul, zero-div}
 use native.Mathlib.Omega.{arith}
-use lib.IntN.{ℤ, pos, negsuc}
-use lib.Dec.{T, leb, ltb, leb→le, nleb→lt, ltb→lt, nltb→le, lit<, lit≤}
+use lib.IntN.{ℤ}
+use lib.Dec.{T, leb, ltb, leb→le, nleb→lt, lit≤}
 use lib.Pow.{pow-add, pow-pos, pow-mono}
 use lib.Ieee.{Float, nan, inf, fin, binary64, size, round, up, down}
 use lib.Ieee.Digits.{size-lt}
 use lib.Ieee.Fits.{up-pos, down-pos}
 use Rattle.ieee754.specs.Steps.{Root}
-use Rattle.ieee754.specs.Norm.{sq-mono, sq-lt, sq-le-back, sq-lt-back, lt-or-ge}
-use Rattle.ieee754.specs.Value.{unit, unit-pos, tiny, unit-tiny, tiny-large, mag, sign, Good, Close, Rounded, round-near}
+use Rattle.ieee754.specs.Norm.{sq-le-back, sq-lt-back}
+use Rattle.ieee754.specs.Value.{unit, unit-pos, mag, sign, Good, Rounded, round-near}
 use Rattle.ieee754.specs.Root.{isqrtAt, isqrt, rootOf, root}
 
 -- ---- the whole root
@@ -105,7 +104,7 @@ stick-le r x = go (ltb (r * r) x)
     go false = lit≤ tt
 
 -- it has 55 digits at least
-pub whole-large : (a c : ℕ) → 0 < a → 0 < c → 2 ^ 54 ≤ wholeOf a c
+whole-large : (a c : ℕ) → 0 < a → 0 < c → 2 ^ 54 ≤ wholeOf a c
 whole-large a c A C =
     let h = isqrt-root (a * scale c * 2 ^ 54) .1 in
     let p : 1 * 1 ≤ a * c = mul-le-mul A C in
@@ -116,7 +115,7 @@ whole-large a c A C =
     big a c p = omega arith
 
 module _ (a c : ℕ) (A : 0 < a) (C : 0 < c) (small : a ≤ 2 ^ 100 * c) where
-  pub scale-pos : 0 < scale c
+  scale-pos : 0 < scale c
   scale-pos = mul-pos C (pow-pos 54)
 
   pub fits-in : 2 * wholeOf a c + stick (wholeOf a c) (a * scale c * 2 ^ 54) ≤ 2 ^ 100 * (2 * scale c)
@@ -130,12 +129,12 @@ module _ (a c : ℕ) (A : 0 < a) (C : 0 < c) (small : a ≤ 2 ^ 100 * c) where
       last : (r s l : ℕ) → r * 1 ≤ 2 ^ 50 * l → s ≤ 1 → 0 < l → 2 * r + s ≤ 2 ^ 100 * (2 * l)
       last r s l h k p = omega arith
 
-  pub rootOf-near : Rounded (rootOf a c) false ((2 * wholeOf a c + stick (wholeOf a c) (a * scale c * 2 ^ 54)) * unit) (2 * scale c)
+  rootOf-near : Rounded (rootOf a c) false ((2 * wholeOf a c + stick (wholeOf a c) (a * scale c * 2 ^ 54)) * unit) (2 * scale c)
   rootOf-near =
       subst (λ (z : Float). Rounded z false ((2 * wholeOf a c + stick (wholeOf a c) (a * scale c * 2 ^ 54)) * unit) (2 * scale c)) (sym (rootOf-is a c))
       (round-near false (2 * wholeOf a c + stick (wholeOf a c) (a * scale c * 2 ^ 54)) (2 * scale c) (mul-pos (zero-lt-suc 1) scale-pos) fits-in)
 
-  pub rootOf-high : (K : ℕ) → a * unit * unit ≤ K * K * c → 2 ^ 50 * mag (rootOf a c) ≤ 2 ^ 50 * K + K + 2 ^ 50
+  rootOf-high : (K : ℕ) → a * unit * unit ≤ K * K * c → 2 ^ 50 * mag (rootOf a c) ≤ 2 ^ 50 * K + K + 2 ^ 50
   rootOf-high K h =
       let r = wholeOf a c in
       let l = scale c in
@@ -152,7 +151,7 @@ module _ (a c : ℕ) (A : 0 < a) (C : 0 < c) (small : a ≤ 2 ^ 100 * c) where
       shape : (n z K l : ℕ) → n * (z * l) ≤ n * (K * l) + K * l + n * l → n * z * l ≤ (n * K + K + n) * l
       shape n z K l h = omega arith
 
-  pub rootOf-low : (K : ℕ) → K * K * c ≤ a * unit * unit → 2 ^ 50 * K ≤ 2 ^ 50 * mag (rootOf a c) + mag (rootOf a c) + 2 ^ 50
+  rootOf-low : (K : ℕ) → K * K * c ≤ a * unit * unit → 2 ^ 50 * K ≤ 2 ^ 50 * mag (rootOf a c) + mag (rootOf a c) + 2 ^ 50
   rootOf-low K h =
       let r = wholeOf a c in
       let l = scale c in

@@ -1,149 +1,139 @@
--- The root is the nearest value: with q * 2 ^ k units for it, of 53 digits, twice the exact root lies between (2 q - 1) 2 ^ k and (2 q + 1) 2 ^ k, by squares of whole numbers. Assumes nothing.
-use mathlib.Core.Path.{_≡_, refl, sym, ap, _∙_, subst}
+-- The root is the nearest value: no number of units that the format holds lies nearer to the exact root, which is that of mag x * unit.
+use mathlib.Core.Path.{_≡_, sym, ap, _∙_, subst}
 use mathlib.Core.Logic.{_⊎_, inl, inr}
-use mathlib.Core.Bool.{Bool, true, false, not, _&&_, cond, true≢false}
-use Prim.Native.Nat.{ℕ, zero, suc, _+_, _-_, _*_, _/_, _%_, _^_, _≤_, _<_}
-use native.Mathlib.Nat.{le-trans, le-of-eq, le-refl, lt-of-le-of-lt, lt-of-lt-of-le, mul-le-mul, mul-le-mul-left, mul-le-mul-right, mul-pos, mul-assoc, mul-comm, mul-one, mul-left-comm, mul-right-comm, zero-lt-suc, pow-succ', eq-or-lt-of-le, div-lt-iff-lt-mul, le-div-iff-mul-le, div-mul-le-self, lt-div-mul-add, not-le-of-lt, eq-of-mul-eq-mul-left, lt-irrefl}
+use mathlib.Core.Bool.{true, false, true≢false}
+use Prim.Native.Nat.{ℕ, zero, suc, _+_, _-_, _*_, _/_, _^_, _≤_, _<_}
+use native.Mathlib.Nat.{le-trans, le-of-eq, le-of-lt, lt-of-le-of-lt, lt-of-lt-of-le, mul-le-mul-left, mul-le-mul-right, mul-pos, mul-assoc, lt-of-mul-lt-mul-right, zero-lt-suc, div-lt-iff-lt-mul, le-div-iff-mul-le, div-mul-le-self, lt-div-mul-add, not-le-of-lt}
 use native.Mathlib.Omega.{arith}
-use lib.IntN.{ℤ, pos, negsuc}
-use lib.Dec.{T, lit<, lit≤}
+use lib.Dec.{T, lit≤}
 use lib.Pow.{pow-add, pow-pos, pow-mono}
-use lib.Ieee.{Float, binary64, size}
+use lib.Ieee.{Float, nan, inf, fin, binary64, fits, down, size}
 use lib.Ieee.Digits.{size-lt, size-reaches}
-use Rattle.ieee754.specs.Norm.{sq-mono, sq-lt, sq-le-back, sq-lt-back, lt-or-ge}
-use Rattle.ieee754.specs.Value.{unit, unit-pos, mag, Is, below-top}
-use Rattle.ieee754.specs.Root.{isqrt, rootOf}
-use Rattle.ieee754.specs.RootLaw.{isqrt-root, scale, wholeOf, whole-large}
+use lib.Ieee.Fits.{up-pos}
+use lib.Ieee.Scale.{finite}
+use Rattle.ieee754.specs.Norm.{sq-mono, lt-or-ge, pow-split}
+use Rattle.ieee754.specs.Value.{unit, unit-pos, mag, sign, Good}
+use Rattle.ieee754.specs.Exact.{Rep, fits-good, fits-below}
+use Rattle.ieee754.specs.Root.{isqrt, root}
+use Rattle.ieee754.specs.RootLaw.{isqrt-root, zero-mag}
 use Rattle.ieee754.specs.RootDigits.{root-digits}
+use Rattle.ieee754.specs.Nearest.{Nearer}
 
 -- ---- the 54 leading digits of r
-pub record Leading (r : ℕ) : Type 0 where
-  pub w : ℕ
-  pub low : 2 ^ 53 ≤ r / 2 ^ w
-  pub high : r / 2 ^ w < 2 ^ 54
+record Leading (r : ℕ) : Type 0 where
+  places : ℕ
+  low : 2 ^ 53 ≤ r / 2 ^ places
+  high : r / 2 ^ places < 2 ^ 54
 
-pub leading : (r : ℕ) → 2 ^ 54 ≤ r → Leading r
+leading : (r : ℕ) → 2 ^ 54 ≤ r → Leading r
 leading r h = go (size r) (size-lt r) (size-reaches r)
   where
-    many : (z : ℕ) → r < 2 ^ z → 55 ≤ z
-    many z l = elim (lt-or-ge z 55) [ inl k ↦ absurd (not-le-of-lt (lt-of-lt-of-le l (pow-mono (le-of-suc k))) h) | inr k ↦ k ]
-      where
-        le-of-suc : {m : ℕ} → m < 55 → m ≤ 54
-        le-of-suc k = omega arith
-
     go : (z : ℕ) → r < 2 ^ z → ((j : ℕ) → j < z → 2 ^ j ≤ r) → Leading r
     go z l f =
-        let m = many z l in
-        let e : z ≡ 54 + (z - 54) = back z m in
+        let m : 54 ≤ z = elim (lt-or-ge z 54) [ inl k ↦ absurd (not-le-of-lt (lt-of-lt-of-le l (pow-mono (le-of-lt k))) h) | inr k ↦ k ] in
         record {
-          w = z - 54;
-          low = le-div-iff-mul-le (pow-pos (z - 54)) .1 (le-trans (le-of-eq (sym (pow-add 2 53 (z - 54)))) (f (53 + (z - 54)) (under z m)));
-          high = div-lt-iff-lt-mul (pow-pos (z - 54)) .1 (lt-of-lt-of-le l (le-of-eq (ap (λ (n : ℕ). 2 ^ n) e ∙ pow-add 2 54 (z - 54))));
+          places = z - 54;
+          low = le-div-iff-mul-le (pow-pos (z - 54)) .1 (le-trans (le-of-eq (sym (pow-add 2 53 (z - 54)))) (f (53 + (z - 54)) (omega arith)));
+          high = div-lt-iff-lt-mul (pow-pos (z - 54)) .1 (lt-of-lt-of-le l (le-of-eq (ap (λ (n : ℕ). 2 ^ n) (back z m) ∙ pow-add 2 54 (z - 54))));
         }
       where
-        back : (z : ℕ) → 55 ≤ z → z ≡ 54 + (z - 54)
+        back : (z : ℕ) → 54 ≤ z → z ≡ 54 + (z - 54)
         back z m = omega arith
 
-        under : (z : ℕ) → 55 ≤ z → 53 + (z - 54) < z
-        under z m = omega arith
-
--- ---- an odd square is no odd number below it times a power of two
-even-odd : (n t : ℕ) → n % 2 ≡ 1 → n ≡ 2 * t → ⊥
-even-odd n t o e = omega arith
-
-no-tie : (m n i j : ℕ) → m % 2 ≡ 1 → n % 2 ≡ 1 → m < n → m * 2 ^ i ≡ n * 2 ^ j → ⊥
-no-tie m n zero zero o p l h = lt-irrefl n (subst (λ (x : ℕ). x < n) (sym (mul-one m) ∙ h ∙ mul-one n) l)
-no-tie m n zero (suc j) o p l h = even-odd m (n * 2 ^ j) o (sym (mul-one m) ∙ h ∙ ap (λ (x : ℕ). n * x) (pow-succ' 2 j) ∙ mul-left-comm n 2 (2 ^ j))
-no-tie m n (suc i) zero o p l h = even-odd n (m * 2 ^ i) p (sym (mul-one n) ∙ sym h ∙ ap (λ (x : ℕ). m * x) (pow-succ' 2 i) ∙ mul-left-comm m 2 (2 ^ i))
-no-tie m n (suc i) (suc j) o p l h =
-    no-tie m n i j o p l
-    (eq-of-mul-eq-mul-left 2 (zero-lt-suc 1) (m * 2 ^ i) (n * 2 ^ j)
-    (sym (mul-left-comm m 2 (2 ^ i)) ∙ ap (λ (x : ℕ). m * x) (sym (pow-succ' 2 i)) ∙ h ∙ ap (λ (x : ℕ). n * x) (pow-succ' 2 j) ∙ mul-left-comm n 2 (2 ^ j)))
-
-pub odd-square : (s : ℕ) → s % 2 ≡ 1 → s * s % 2 ≡ 1
-odd-square s o = subst (λ (n : ℕ). n * n % 2 ≡ 1) (sym (form s o)) (poly (s / 2))
+-- ---- twice the root lies from s to s + 1 times 2 ^ k units: another value K, with the rounded root, lies on one side of that
+-- K is a whole number of 2 ^ k units, or at most 2 ^ 52 of them
+coarse-or-small : (k K : ℕ) → Rep K → ((j : ℕ) × (K ≡ j * 2 ^ k)) ⊎ (K ≤ 2 ^ 52 * 2 ^ k)
+coarse-or-small k K r = elim (lt-or-ge (r .places) k) [
+  | inl l ↦ inr (le-trans (le-of-eq (r .is)) (few (r .digits) (2 ^ r .places) (2 ^ k) (r .few) (le-trans (le-of-eq (sym (pow-add 2 1 (r .places)))) (pow-mono {i = 1 + r .places} (omega arith)))))
+  | inr g ↦ inl (r .digits * 2 ^ (r .places - k), r .is ∙ ap (λ (n : ℕ). r .digits * n) (pow-split g) ∙ sym (mul-assoc (r .digits) (2 ^ (r .places - k)) (2 ^ k)))
+]
   where
-    form : (s : ℕ) → s % 2 ≡ 1 → s ≡ 2 * (s / 2) + 1
-    form s o = omega arith
+    few : (d p w : ℕ) → d < 2 ^ 53 → 2 * p ≤ w → d * p ≤ 2 ^ 52 * w
+    few d p w b h = let x : d * p ≤ 2 ^ 53 * p = mul-le-mul-right p (le-of-lt b) in omega arith
 
-    poly : (h : ℕ) → (2 * h + 1) * (2 * h + 1) % 2 ≡ 1
-    poly h = rw (shape h) (one (2 * (h * h) + 2 * h))
+module _ (s k K : ℕ) (lo : 2 ^ 53 ≤ s) (r : Rep K) where
+  under : K < (s + 1) / 2 * 2 ^ k → K + (s + 1) / 2 * 2 ^ k ≤ s * 2 ^ k
+  under h = elim (coarse-or-small k K r) [ inl p ↦ whole ((s + 1) / 2) (p .0) (2 ^ k) (p .1) (half s) (pow-pos k) h | inr l ↦ small ((s + 1) / 2) (2 ^ k) (fits s lo) l ]
+    where
+      half : (s : ℕ) → 2 * ((s + 1) / 2) ≤ s + 1
+      half s = omega arith
+
+      fits : (s : ℕ) → 2 ^ 53 ≤ s → 2 ^ 52 + (s + 1) / 2 ≤ s
+      fits s h = omega arith
+
+      whole : (q j w : ℕ) → K ≡ j * w → 2 * q ≤ s + 1 → 0 < w → K < q * w → K + q * w ≤ s * w
+      whole q j w e h p l =
+          let a : j < q = lt-of-mul-lt-mul-right w (lt-of-le-of-lt (le-of-eq (sym e)) l) in
+          let b : (j + q) * w ≤ s * w = mul-le-mul-right w (omega arith) in
+          omega arith
+
+      small : (q w : ℕ) → 2 ^ 52 + q ≤ s → K ≤ 2 ^ 52 * w → K + q * w ≤ s * w
+      small q w h l = let a : (2 ^ 52 + q) * w ≤ s * w = mul-le-mul-right w h in omega arith
+
+  over : (s + 1) / 2 * 2 ^ k < K → (s + 1) * 2 ^ k ≤ K + (s + 1) / 2 * 2 ^ k
+  over h = elim (coarse-or-small k K r) [ inl p ↦ whole ((s + 1) / 2) (p .0) (2 ^ k) (p .1) (half s) h | inr l ↦ absurd (small ((s + 1) / 2) (2 ^ k) (large s lo) l h) ]
+    where
+      half : (s : ℕ) → s ≤ 2 * ((s + 1) / 2)
+      half s = omega arith
+
+      large : (s : ℕ) → 2 ^ 53 ≤ s → 2 ^ 52 ≤ (s + 1) / 2
+      large s h = omega arith
+
+      whole : (q j w : ℕ) → K ≡ j * w → s ≤ 2 * q → q * w < K → (s + 1) * w ≤ K + q * w
+      whole q j w e h l =
+          let a : q < j = lt-of-mul-lt-mul-right w (lt-of-lt-of-le l (le-of-eq e)) in
+          let b : (s + 1) * w ≤ (j + q) * w = mul-le-mul-right w (omega arith) in
+          omega arith
+
+      small : (q w : ℕ) → 2 ^ 52 ≤ q → K ≤ 2 ^ 52 * w → q * w < K → ⊥
+      small q w h l m = let a : 2 ^ 52 * w ≤ q * w = mul-le-mul-right w h in omega arith
+
+pub root-nearest : (x : Float) → T (fits binary64 x) → T (finite x) → sign x ≡ false → (K : ℕ) → Rep K → Nearer (mag x * unit) (mag (root x)) K
+unfolding root sign Good
+root-nearest nan f t p K r = absurd t
+root-nearest (inf q) f t p K r = absurd t
+root-nearest (fin q zero e) f t p K r = zeros (mag (fin q zero e)) (zero-mag q e)
+  where
+    zeros : (m : ℕ) → m ≡ 0 → Nearer (m * unit) m K
+    zeros m e = subst (λ (n : ℕ). Nearer (n * unit) n K) (sym e) (record { below = λ h. omega arith; above = λ h. omega arith })
+root-nearest (fin true (suc n) e) f t p K r = absurd (true≢false p)
+root-nearest (fin false (suc n) e) f t p K r = go (leading R large)
+  where
+    x : Float
+    x = fin false (suc n) e
+
+    good : Good x × Rep (mag x)
+    good = fits-good x f t
+
+    v : ℕ
+    v = mag x * unit
+
+    R : ℕ
+    R = isqrt (4 * v)
+
+    positive : 0 < mag x
+    positive = lt-of-mul-lt-mul-right (down e) (lt-of-le-of-lt (le-of-eq (none (down e))) (lt-of-lt-of-le (mul-pos (mul-pos (zero-lt-suc n) (up-pos e)) unit-pos) (le-of-eq (good .0))))
       where
-        shape : (h : ℕ) → (2 * h + 1) * (2 * h + 1) ≡ 2 * (2 * (h * h) + 2 * h) + 1
-        shape h = omega arith
+        none : (d : ℕ) → 0 * d ≡ 0
+        none d = omega arith
 
-        one : (n : ℕ) → (2 * n + 1) % 2 ≡ 1
-        one n = omega arith
+    large : 2 ^ 54 ≤ R
+    large = elim (lt-or-ge R (2 ^ 54)) [ inl l ↦ absurd (not-le-of-lt (isqrt-root (4 * v) .1) (le-trans (sq-mono (next R l)) many)) | inr g ↦ g ]
+      where
+        next : (R : ℕ) → R < 2 ^ 54 → R + 1 ≤ 2 ^ 54
+        next R l = omega arith
 
--- ---- the root of m * 2 ^ i * 2 ^ -(2 y) .., as a / c with a * c = m * 2 ^ i
-module _ (a c m i : ℕ) (A : 0 < a) (C : 0 < c) (ac : a * c ≡ m * 2 ^ i) (o : m % 2 ≡ 1) (b : m < 2 ^ 53) where
-  unfoldable pub r : ℕ
-  r = wholeOf a c
+        many : 2 ^ 54 * 2 ^ 54 ≤ 4 * v
+        many = unfold unit in le-trans (lit≤ tt) (mul-le-mul-left 4 (mul-le-mul-right {m = 1} unit positive))
 
-  unfoldable pub lead : Leading r
-  unfolding r
-  lead = leading (wholeOf a c) (whole-large a c A C)
-
-  unfoldable pub s : ℕ
-  unfolding r
-  s = r / 2 ^ lead .w
-
-  unfoldable pub X : ℕ
-  X = a * scale c * 2 ^ 54
-
-  pub X-is : X ≡ m * 2 ^ (i + 108)
-  unfolding X
-  X-is = shape a c (2 ^ 54) ∙ ap (λ (n : ℕ). n * (2 ^ 54 * 2 ^ 54)) ac ∙ mul-assoc m (2 ^ i) (2 ^ 108) ∙ ap (λ (n : ℕ). m * n) (sym (pow-add 2 i 108))
-    where
-      shape : (a c p : ℕ) → a * (c * p) * p ≡ a * c * (p * p)
-      shape a c p = omega arith
-
-  s-low : s * 2 ^ lead .w * (s * 2 ^ lead .w) ≤ X
-  unfolding s r X
-  s-low = le-trans (sq-mono (div-mul-le-self (wholeOf a c) (2 ^ lead .w))) (isqrt-root (a * scale c * 2 ^ 54) .0)
-
-  s-high : X < (s + 1) * 2 ^ lead .w * ((s + 1) * 2 ^ lead .w)
-  unfolding s r X
-  s-high = lt-of-lt-of-le (isqrt-root (a * scale c * 2 ^ 54) .1) (sq-mono (step (wholeOf a c) (wholeOf a c / 2 ^ lead .w) (2 ^ lead .w) (lt-div-mul-add (pow-pos (lead .w)))))
-    where
-      step : (r s p : ℕ) → r < s * p + p → r + 1 ≤ (s + 1) * p
-      step r s p h = omega arith
-
-  strict : (s % 2 ≡ 0) ⊎ (s * 2 ^ lead .w * (s * 2 ^ lead .w) < X)
-  unfolding s r
-  strict = go (s % 2) refl (rem s)
-    where
-      rem : (s : ℕ) → s % 2 ≤ 1
-      rem s = omega arith
-
-      big : (m s : ℕ) → m < 2 ^ 53 → 2 ^ 53 ≤ s → m < s * s
-      big m s h k = let x : 2 ^ 53 * s ≤ s * s = mul-le-mul-right s k in omega arith
-
-      tie : s % 2 ≡ 1 → s * 2 ^ lead .w * (s * 2 ^ lead .w) ≡ X → ⊥
-      tie p e = no-tie m (s * s) (i + 108) (lead .w + lead .w) o (odd-square s p) (big m s b (lead .low)) (sym X-is ∙ sym e ∙ shape s (2 ^ lead .w) ∙ ap (λ (n : ℕ). s * s * n) (sym (pow-add 2 (lead .w) (lead .w))))
-        where
-          shape : (s p : ℕ) → s * p * (s * p) ≡ s * s * (p * p)
-          shape s p = omega arith
-
-      go : (n : ℕ) → s % 2 ≡ n → s % 2 ≤ 1 → (s % 2 ≡ 0) ⊎ (s * 2 ^ lead .w * (s * 2 ^ lead .w) < X)
-      go zero e h = inl e
-      go (suc zero) e h = elim (eq-or-lt-of-le s-low) [ inl t ↦ absurd (tie e t) | inr l ↦ inr l ]
-      go (suc (suc n)) e h = absurd (no-room (s % 2) n e h)
-        where
-          no-room : (x n : ℕ) → x ≡ suc (suc n) → x ≤ 1 → ⊥
-          no-room x n e h = omega arith
-
-  -- with the scale's power of two, k
-  pub root-nearest : (k : ℕ) → scale c * 2 ^ k ≡ 2 * (unit * 2 ^ lead .w) → (s + 1) / 2 * 2 ^ k ≤ 2 ^ 100 * unit → Is (rootOf a c) false ((s + 1) / 2 * 2 ^ k)
-  unfolding X
-  root-nearest k e h = root-digits a c s k (lead .w) C (unfold s in lead .low) (unfold s in lead .high) e s-low s-high strict (below-top ((s + 1) / 2 * 2 ^ k) h)
-
-  -- (2 q - 1) 2 ^ w ≤ root X < (2 q + 1) 2 ^ w, q = (s + 1) / 2: so q is the nearest
-  pub nearest-squares : ((2 * ((s + 1) / 2) - 1) * 2 ^ lead .w * ((2 * ((s + 1) / 2) - 1) * 2 ^ lead .w) ≤ X) × (X < (2 * ((s + 1) / 2) + 1) * 2 ^ lead .w * ((2 * ((s + 1) / 2) + 1) * 2 ^ lead .w))
-  nearest-squares = (le-trans (sq-mono (mul-le-mul-right (2 ^ lead .w) (one s))) s-low, lt-of-lt-of-le s-high (sq-mono (mul-le-mul-right (2 ^ lead .w) (two s))))
-    where
-      one : (s : ℕ) → 2 * ((s + 1) / 2) - 1 ≤ s
-      one s = omega arith
-
-      two : (s : ℕ) → s + 1 ≤ 2 * ((s + 1) / 2) + 1
-      two s = omega arith
+    go : Leading R → Nearer v (mag (root x)) K
+    go l =
+        let k = l .places in
+        let s = R / 2 ^ k in
+        let a : s * 2 ^ k * (s * 2 ^ k) ≤ 4 * v = le-trans (sq-mono (div-mul-le-self R (2 ^ k))) (isqrt-root (4 * v) .0) in
+        let b : 4 * v < (s + 1) * 2 ^ k * ((s + 1) * 2 ^ k) = lt-of-lt-of-le (isqrt-root (4 * v) .1) (sq-mono (step R s (2 ^ k) (lt-div-mul-add (pow-pos k)))) in
+        let i = root-digits x s k (good .0) p (good .1) (fits-below x f t) (l .low) (l .high) a b in
+        subst (λ (z : ℕ). Nearer v z K) (sym (i .mag-is)) (record { below = λ h. le-trans (sq-mono (under s k K (l .low) r h)) a; above = λ h. le-of-lt (lt-of-lt-of-le b (sq-mono (over s k K (l .low) r h))) })
+      where
+        step : (r s p : ℕ) → r < s * p + p → r + 1 ≤ (s + 1) * p
+        step r s p h = omega arith

@@ -1,25 +1,20 @@
--- Between frames of whole numbers the float distance is exact but for its root, and "distance ≤ t" is "sum of squares ≤ t * t". Assumes nothing.
-use mathlib.Core.Path.{_≡_, refl, sym, ap, _∙_, subst}
-use mathlib.Core.Logic.{_⊎_, inl, inr}
-use mathlib.Core.Bool.{Bool, true, false, not, cond, true≢false}
-use mathlib.Core.List.{List, [], _∷_}
-use Prim.Native.Nat.{ℕ, zero, suc, _+_, _-_, _*_, _/_, _%_, _^_, _≤_, _<_}
-use native.Mathlib.Nat.{le-trans, le-of-eq, le-refl, lt-of-le-of-lt, lt-of-lt-of-le, mul-le-mul, mul-le-mul-left, mul-le-mul-right, mul-pos, mul-assoc, mul-comm, add-mul, add-assoc, add-zero, zero-add, zero-lt-suc, not-le-of-lt, le-of-lt, eq-of-mul-eq-mul-right, mul-right-comm}
+-- Whole floats: their squares and sums are exact, and their root is at most a whole number t exactly where they are at most t * t.
+use mathlib.Core.Path.{_≡_, refl, sym, ap, ap₂, _∙_, subst}
+use mathlib.Core.Logic.{inl, inr}
+use mathlib.Core.Bool.{Bool, true, false, cond, true≢false}
+use Prim.Native.Nat.{ℕ, zero, suc, _+_, _*_, _^_, _≤_, _<_}
+use native.Mathlib.Nat.{le-trans, le-of-eq, lt-of-le-of-lt, lt-of-lt-of-le, mul-le-mul, mul-le-mul-right, mul-pos, mul-assoc, add-mul, zero-lt-suc, le-of-lt, eq-of-mul-eq-mul-right, mul-right-comm}
 use native.Mathlib.Omega.{arith}
-use lib.IntN.{ℤ, pos, negsuc}
-use lib.Dec.{T, leb, ltb, leb→le, le→leb, ltb→lt, nltb→le, lit<, lit≤}
+use lib.Dec.{T, ltb, ltb→lt, lit<, lit≤}
 use lib.Pow.{pow-pos}
-use lib.ListN.{length}
-use lib.Ieee.{Float, nan, inf, fin, binary64, round, add, sub, mul, ofInt, unlike, up, down, le}
+use lib.Ieee.{Float, nan, inf, fin, binary64, round, add, mul, unlike, up, down}
 use lib.Ieee.Fits.{up-pos, down-pos}
-use Rattle.ieee754.specs.Steps.{Root}
-use Rattle.ieee754.specs.Norm.{squares, sq-mono, sq-lt, sq-le-back, sq-lt-back, lt-or-ge, Tri, none, more, triangle}
-use Rattle.ieee754.specs.Value.{unit, unit-pos, tiny, unit-tiny, tiny-large, mag, sign, Good, Is, Close, Rounded}
-use Rattle.ieee754.specs.Ops.{plus, minus, plus-pos, minus-pos, SumOf, above, below, sub-of, add-pos}
-use Rattle.ieee754.specs.Compare.{le-is}
-use Rattle.ieee754.specs.Exact.{Rep, rep-whole, round-rep, round-le, mul-exact, ofInt-pos}
-use Rattle.ieee754.specs.Root.{isqrt, rootOf, root}
-use Rattle.ieee754.specs.RootLaw.{isqrt-root, rootOf-is, rootOf-near, scale, wholeOf, stick, fits-in, zero-mag, root-near, Rooted, reach}
+use Rattle.ieee754.specs.Norm.{sq-le-back, sq-lt-back, lt-or-ge}
+use Rattle.ieee754.specs.Value.{unit, unit-pos, tiny, unit-tiny, tiny-large, mag, sign, Good, Is}
+use Rattle.ieee754.specs.Ops.{add-pos}
+use Rattle.ieee754.specs.Exact.{rep-whole, round-rep, round-le, mul-exact}
+use Rattle.ieee754.specs.Root.{rootOf, root}
+use Rattle.ieee754.specs.RootLaw.{isqrt-root, rootOf-is, scale, wholeOf, stick, fits-in, zero-mag, root-near, reach}
 
 -- ---- the root of a whole number n against a whole number t
 stick-cases : (r x y : ℕ) → r * r ≤ x → x ≤ y * y → 2 * r + stick r x ≤ 2 * y
@@ -121,7 +116,8 @@ like false = refl
 
 pub whole-square : (d : Float) (k : ℕ) → k ≤ 2 ^ 17 → Good d → mag d ≡ k * unit → Is (mul binary64 d d) false (k * k * unit)
 whole-square d k b g e =
-    let i = mul-exact d d (k * k * unit) g g (ap (λ (n : ℕ). n * n) e ∙ shape k unit) (rep-whole (k * k) (lt-of-le-of-lt (mul-le-mul b b) (lit< tt))) (mul-le-mul-right unit (le-trans (mul-le-mul b b) (lit≤ tt))) in
+    let h : k * k ≤ 2 ^ 34 = mul-le-mul b b in
+    let i = mul-exact d d (k * k * unit) g g (ap (λ (n : ℕ). n * n) e ∙ shape k unit) (rep-whole (k * k) (lt-of-le-of-lt h (lit< tt))) (mul-le-mul-right unit (le-trans h (lit≤ tt))) in
     record { good = i .good; mag-is = i .mag-is; sign-is = i .sign-is ∙ like (sign d) }
   where
     shape : (k u : ℕ) → k * u * (k * u) ≡ k * k * u * u
@@ -129,5 +125,6 @@ whole-square d k b g e =
 
 pub whole-sum : (x y : Float) (a b : ℕ) → Is x false (a * unit) → Is y false (b * unit) → a + b < 2 ^ 53 → Is (add binary64 x y) false ((a + b) * unit)
 whole-sum x y a b i j h =
-    subst (λ (w : Float). Is w false ((a + b) * unit)) (sym (add-pos x y (i .good) (j .good) (i .sign-is) (j .sign-is) ∙ ap (λ (n : ℕ). round binary64 false n unit) (ap (λ (n : ℕ). n + mag y) (i .mag-is) ∙ ap (λ (n : ℕ). a * unit + n) (j .mag-is) ∙ sym (add-mul a b unit))))
+    let s : mag x + mag y ≡ (a + b) * unit = ap₂ (λ (m n : ℕ). m + n) (i .mag-is) (j .mag-is) ∙ sym (add-mul a b unit) in
+    subst (λ (w : Float). Is w false ((a + b) * unit)) (sym (add-pos x y (i .good) (j .good) (i .sign-is) (j .sign-is) ∙ ap (λ (n : ℕ). round binary64 false n unit) s))
     (round-rep false ((a + b) * unit) (rep-whole (a + b) h) (mul-le-mul-right unit (le-trans (le-of-lt h) (lit≤ tt))))

@@ -1,17 +1,24 @@
-// IEEE 754 binary64: the square root and the ceiling, which the language does not have. Both are worked out on whole numbers.
+// IEEE 754 binary64: the square root and the ceiling, which the language does not have. The root is worked out on whole numbers.
 ghost use mathlib.Core.Path.{_≡_};
 ghost use mathlib.Core.Bool.{false};
 ghost use Prim.Native.Nat.{_*_, _+_, _^_, _≤_, _<_};
 ghost use lib.Dec.{T};
 ghost use lib.IntN.{pos};
 ghost use lib.Ieee.{binary64, ofInt, toBits, ofBits, odd};
-ghost use Rattle.ieee754.specs.Steps.{Root};
+ghost use Rattle.ieee754.specs.Steps.{Root, Room};
 ghost use Rattle.ieee754.specs.Root.{root};
-ghost use Rattle.ieee754.specs.Room.{Room};
 ghost use Rattle.ieee754.specs.Nearest.{nearestRoot};
 ghost use Rattle.ieee754.specs.Ceil.{ceil};
 ghost use Rattle.ieee754.specs.Small.{Small};
 
+// 2^8.
+const POWER_8: u64 = 256;
+// 2^16.
+const POWER_16: u64 = 65536;
+// 2^22.
+const POWER_22: u64 = 4194304;
+// 2^32.
+const POWER_32: u64 = 4294967296;
 // The weight of the exponent's field, 2^52: also the leading digit of a normal significand, which the bits leave out.
 const HIDDEN_BIT: u64 = 4503599627370496;
 // The sign's bit, 2^63.
@@ -52,23 +59,25 @@ fn more_digits(h: u64, s: u64, b: u64, a: u64, c: u64) -> u64
     if u * b + c < q * q { n - 1 } else { n }
 }
 
-// The 54 digits of the root of an h of 63 or 64 binary digits: 8, 16, 32, 54.
+// The 54 digits of the root of h * 2^44, h of 63 or 64 binary digits: first 8, then 16, 32, 54.
 fn all_digits(h: u64) -> u64
     requires { ⌜ 2 ^ 62 ≤ h ⌝ }
     ensures { λ r. ⌜ Root (h * 2 ^ 44) r ⌝ }
 {
-    let m = h / 4294967296;
-    let n = m / 65536;
+    let m = h / POWER_32;
+    let n = m / POWER_16;
     let s8 = first_digits(n);
-    let s16 = more_digits(n, s8, 256, m / 256 % 256, m % 256);
-    let s32 = more_digits(m, s16, 65536, h / 65536 % 65536, h % 65536);
-    more_digits(h, s32, 4194304, 0, 0)
+    let s16 = more_digits(n, s8, POWER_8, m / POWER_8 % POWER_8, m % POWER_8);
+    let s32 = more_digits(m, s16, POWER_16, h / POWER_16 % POWER_16, h % POWER_16);
+    more_digits(h, s32, POWER_22, 0, 0)
 }
 
-// The bits of the root of m * 2^f * 2^-1074: m is moved up to 63 or 64 digits, so that an even power of two is left.
+// The bits of the root of m * 2^f units of 2^-1074: m is moved up to 63 or 64 digits, so that an even power of two is left.
+// Twice the root lies from s to s + 1 times 2^k units, with 4 * m * 2^f * 2^1074 = (m << moved) * 2^44 * 4^k: so 2 * k is f + 1032 - moved.
 fn root_bits(m: u64, f: u64) -> u64
     requires { ⌜ (0 < m) × (m < 2 ^ 53) × (f < 2046) ⌝ }
-    ensures { λ r. ⌜ r ≡ toBits binary64 (root (odd 53 false m f 1074)) ⌝ }
+    ensures value { λ r. ⌜ r ≡ toBits binary64 (root (odd 53 false m f 1074)) ⌝ }
+    ensures finite { λ r. ⌜ r < 2047 * 2 ^ 52 ⌝ }
 {
     let zeros = u64::leading_zeros(m) as u64;
     let moved = zeros - (zeros + f) % 2;

@@ -1,0 +1,139 @@
+// The box of a frame, the distance, and the test of a box against a frame: on the first 1 to 4 of four coordinates.
+ghost use mathlib.Core.Path.{_≡_};
+ghost use mathlib.Core.List.{map};
+ghost use Prim.Native.Nat.{_^_, _≤_};
+ghost use lib.ListN.{take};
+ghost use Rattle.hyperparams.specs.Params.{float};
+ghost use Rattle.counting_tree.specs.Grid.{half};
+ghost use Rattle.counting_tree.specs.Box as Definitions;
+ghost use Rattle.counting_tree.specs.Box.{sumFrom, farthest, intersection};
+ghost use Rattle.counting_tree.specs.Arrays.{boxOf, rowOf, rowsOf};
+ghost use Rattle.counting_tree.specs.Radius.{Side};
+use super::grid::cell_center;
+use super::grid::half_side;
+use crate::Box;
+use crate::IntersectionType;
+
+// The box in which a frame lies.
+pub fn box_of(frame: [i16; 4], side: f64, channels: usize) -> Box
+    requires side { ⌜ Side side ⌝ }
+    requires channels { ⌜ channels ≤ 4 ⌝ }
+    ensures { λ r. ⌜ r ≡ boxOf channels side frame ⌝ }
+{
+    let mut centre = [0.0f64; 4];
+    for i in 0..channels {
+        centre[i] = cell_center(side, frame[i]);
+    }
+    Box { centre, side }
+}
+
+// "differences squared and added from channel 0 up, each operation rounded once"
+fn square_sum(q: [f64; 4], p: [f64; 4], channels: usize) -> f64
+    requires { ⌜ channels ≤ 4 ⌝ }
+    ensures { λ r. ⌜ r ≡ sumFrom (float 0) (take channels q) (take channels p) ⌝ }
+{
+    let mut sum = 0.0f64;
+    for i in 0..channels {
+        let d = q[i] - p[i];
+        sum = sum + d * d;
+    }
+    sum
+}
+
+// "Distance: .., then the root."
+pub fn distance(q: [f64; 4], p: [f64; 4], channels: usize) -> f64
+    requires { ⌜ channels ≤ 4 ⌝ }
+    ensures { λ r. ⌜ r ≡ Definitions.distance (take channels q) (take channels p) ⌝ }
+{
+    ieee754::root(square_sum(q, p, channels))
+}
+
+// Corner k of a box: coordinate i lies e below the centre's where bit i of k is 0, else e above it.
+fn corner(centre: [f64; 4], e: f64, channels: usize, k: usize) -> [f64; 4]
+    requires { ⌜ channels ≤ 4 ⌝ }
+    ensures { λ r. ⌜ r ≡ rowOf channels centre e k ⌝ }
+{
+    let mut row = centre;
+    let mut bits = k;
+    for i in 0..channels {
+        let c = centre[i];
+        if bits % 2 == 0 {
+            row[i] = c - e;
+        } else {
+            row[i] = c + e;
+        }
+        bits = bits / 2;
+    }
+    row
+}
+
+// How many corners a box has.
+fn corner_count(channels: usize) -> usize
+    requires { ⌜ channels ≤ 4 ⌝ }
+    ensures { λ r. ⌜ r ≡ 2 ^ channels ⌝ }
+{
+    1usize << channels
+}
+
+// "at most sixteen corners of four coordinates each"
+pub fn get_corners(centre: [f64; 4], side: f64, channels: usize) -> [[f64; 4]; 16]
+    requires { ⌜ channels ≤ 4 ⌝ }
+    ensures { λ r. ⌜ r ≡ rowsOf channels centre (half side) ⌝ }
+{
+    let mut all = [[0.0f64; 4]; 16];
+    let e = half_side(side);
+    let n = corner_count(channels);
+    for k in 0..n {
+        all[k] = corner(centre, e, channels, k);
+    }
+    all
+}
+
+// The distance of the farthest corner.
+pub fn farthest_corner(q: [f64; 4], all: [[f64; 4]; 16], channels: usize) -> f64
+    requires { ⌜ channels ≤ 4 ⌝ }
+    ensures { λ r. ⌜ r ≡ farthest (take channels q) (map (take channels) (take (2 ^ channels) all)) ⌝ }
+{
+    let mut far = 0.0f64;
+    let n = corner_count(channels);
+    for k in 0..n {
+        let d = distance(q, all[k], channels);
+        if far < d {
+            far = d;
+        }
+    }
+    far
+}
+
+// The box against the frame q: t is the tolerance, and appx the extended one.
+pub fn determine_intersection(
+    b: Box,
+    q: [f64; 4],
+    channels: usize,
+    t: f64,
+    appx: f64,
+) -> IntersectionType
+    requires { ⌜ (1 ≤ channels) × (channels ≤ 4) ⌝ }
+    ensures { λ r. ⌜ r ≡ intersection channels t appx (b .side) (take channels (b .centre)) (take channels q) ⌝ }
+{
+    let centre = b.centre;
+    let side = b.side;
+    let d = distance(q, centre, channels);
+    let h = half_side(side * ieee754::root_of_small(channels));
+    if d - h > t {
+        return IntersectionType::Disjoint;
+    }
+    if d + h <= appx {
+        return IntersectionType::FullyCovered;
+    }
+    let e = half_side(side);
+    if d - e <= t {
+        return IntersectionType::Intersecting;
+    }
+    let all = get_corners(centre, side, channels);
+    if farthest_corner(q, all, channels) < appx {
+        IntersectionType::FullyCovered
+    } else {
+        IntersectionType::Intersecting
+    }
+}

@@ -1,0 +1,4 @@
+pub mod Leaders
+pub mod Trials
+pub mod LeaderLaws
+pub mod TrialLaws
