@@ -6,3 +6,5 @@ pub mod StandIns
 pub mod Misreadings
 pub mod Examples
 pub mod Theorem
+pub mod Accepted
+pub mod Paper

@@ -4,3 +4,4 @@ pub mod ClusterLaws
 pub mod Leaders
 pub mod AnyOrder
 pub mod LeaderPartition
+pub mod AnyList

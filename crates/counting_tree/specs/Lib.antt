@@ -19,3 +19,4 @@ pub mod Answers
 pub mod Settings
 pub mod Domain
 pub mod Sound
+pub mod Triangle

@@ -8,3 +8,4 @@ pub mod WordLaws
 pub mod PartLaws
 pub mod LoopLaws
 pub mod Chains
+pub mod PermLaws
