@@ -9,12 +9,12 @@ use native.Mathlib.Omega.{arith}
 use lib.Dec.{eqb, lit≤}
 use lib.IntN.{ℤ, pos}
 use lib.Pow.{pow-mono}
-use lib.ListN.{length, getD, take, drop, replicate, drop-of-length-le}
-use lib.Seq.{drop-cons, length-take-le, getD-take}
+use lib.ListN.{length, getD, take, drop, replicate, length-drop, drop-of-length-le}
+use lib.Seq.{drop-cons, length-take-le, getD-take, getD-drop}
 use lib.Ieee.{Float, nan, binary64, add, sub, mul, lt}
 use Rattle.lists.specs.Lists.{from, numbers}
 use Rattle.lists.specs.ListLaws.{length-numbers}
-use Rattle.lists.specs.Words.{column}
+use Rattle.lists.specs.Words.{part, column}
 use Rattle.lists.specs.PartLaws.{part-same}
 use Rattle.hyperparams.specs.Params.{float}
 use Rattle.counting_tree.specs.Grid.{index, centre, indexes, centres}
@@ -47,6 +47,10 @@ column-from f d xs a (suc n) h =
 pub column-take : {A B : Type 0} (f : A → B) (d : A) (xs : List A) (n : ℕ) → n ≤ length xs → column (λ (i : ℕ). f (getD xs i d)) n ≡ map f (take n xs)
 column-take f d xs n h = column-from f d xs 0 n (omega arith)
 
+map-self : {A : Type 0} (l : List A) → map (λ (x : A). x) l ≡ l
+map-self [] = refl
+map-self (x ∷ l) = ap (λ (r : List _). x ∷ r) (map-self l)
+
 -- the centre of a frame's box
 abbrev pub centreAt : Float → List ℤ → ℕ → Float
 centreAt side frame i = centre side (index side (getD frame i (pos 0)))
@@ -54,6 +58,17 @@ centreAt side frame i = centre side (index side (getD frame i (pos 0)))
 pub centre-column : (side : Float) (frame : List ℤ) (n : ℕ) → n ≤ length frame → column (centreAt side frame) n ≡ centres side (take n frame)
 unfolding centres indexes
 centre-column side frame n h = column-take (λ (z : ℤ). centre side (index side z)) (pos 0) frame n h ∙ sym (map-map (centre side) (index side) (take n frame))
+
+-- the counts of a frame, from their start in the points
+abbrev pub countAt : List ℤ → ℕ → ℕ → ℤ
+countAt points start k = getD points (start + k) (pos 0)
+
+pub count-column : (points : List ℤ) (start n : ℕ) → start + n ≤ length points → column (countAt points start) n ≡ part points start n
+count-column points start n h = go 0 n ∙ column-take (λ (z : ℤ). z) (pos 0) (drop start points) n (omega (arith, length-drop start points)) ∙ map-self (take n (drop start points))
+  where
+    go : (a m : ℕ) → map (λ (k : ℕ). getD points (start + k) (pos 0)) (from a m) ≡ map (λ (k : ℕ). getD (drop start points) k (pos 0)) (from a m)
+    go a zero = refl
+    go a (suc m) = ap₂ (λ (x : ℤ) (l : List ℤ). x ∷ l) (sym (getD-drop start points a (pos 0))) (go (suc a) m)
 
 -- ---- one corner, coordinate by coordinate
 corner-long : (r : List Float) (e : Float) (k : ℕ) → length (cornerOf r e k) ≡ length r
@@ -66,10 +81,6 @@ unfolding cornerOf
 corner-take zero r e k = refl
 corner-take (suc n) [] e k = refl
 corner-take (suc n) (c ∷ r) e k = ap (λ (l : List Float). cond (eqb (k % 2) 0) (sub binary64 c e) (add binary64 c e) ∷ l) (corner-take n r e (k / 2))
-
-map-self : (l : List Float) → map (λ (x : Float). x) l ≡ l
-map-self [] = refl
-map-self (x ∷ l) = ap (λ (r : List Float). x ∷ r) (map-self l)
 
 abbrev pub cornerAt : List Float → Float → ℕ → ℕ → Float
 cornerAt r e k i = getD (cornerOf r e k) i nan

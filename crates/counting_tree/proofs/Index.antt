@@ -154,9 +154,11 @@ index-small side c s b =
         room : (n : ℕ) → n ≤ 1099511627776 → 0 + n + 1 ≤ 1099511627777
         room n h = omega arith
 
+pub index-fits : (r : ℤ) (side : Float) (c : ℤ) → Side side → natAbs c ≤ 2 ^ 15 → r ≡ index side c → (Signed.mag r ≤ 1099511627777) × SFits w64 r
+index-fits r side c s b e = let h = subst (λ (k : ℤ). Signed.mag k ≤ 1099511627777) (sym e) (index-small side c s b) in (h, record { sfits = lt-of-le-of-lt h (lit< tt) })
+
 -- the index, read back from its bits
 pub index-back : (r : ℤ) (side : Float) (c : ℤ) → Side side → natAbs c ≤ 2 ^ 15 → r ≡ index side c → T (inFloat binary64 (toZ w64 (ofZ w64 r))) × (toZ w64 (ofZ w64 r) ≡ index side c)
 index-back r side c s b e =
-    let h : Signed.mag r ≤ 1099511627777 = subst (λ (k : ℤ). Signed.mag k ≤ 1099511627777) (sym e) (index-small side c s b) in
-    let f : SFits w64 r = record { sfits = lt-of-le-of-lt h (lit< tt) } in
-    (subst (λ (k : ℤ). T (inFloat binary64 k)) (sym (toZ-ofZ f)) (in-float r (lt-of-le-of-lt h (lit< tt))), toZ-ofZ f ∙ e)
+    let f = index-fits r side c s b e in
+    (subst (λ (k : ℤ). T (inFloat binary64 k)) (sym (toZ-ofZ (f .1))) (in-float r (lt-of-le-of-lt (f .0) (lit< tt))), toZ-ofZ (f .1) ∙ e)

@@ -11,11 +11,11 @@ use lib.Seq.{getD-take, getD-drop}
 use Rattle.hyperparams.specs.declared.Params.{Params}
 use Rattle.hyperparams.specs.declared.ValidParams.{ValidParams}
 use Rattle.hyperparams.specs.declared.Checked.the-variants.{Valid}
-use Rattle.hyperparams.specs.Params.{validOf, checkedOf}
+use Rattle.hyperparams.specs.Params.{checkedOf}
 use Rattle.hyperparams.specs.Accepted.{accepted}
 use Rattle.counting_tree.specs.Frames.{Frame, framesIn, framesOf}
 use Rattle.counting_tree.specs.FramesIn.{frames-length, frame-at, frame-inside, frame-length}
-use Rattle.counting_tree.specs.Settings.{Settings, settings-of}
+use Rattle.counting_tree.specs.Settings.{Settings, settings-in}
 
 -- "each a signed 16-bit count": −2 ^ 15 ≤ z < 2 ^ 15
 abbrev pub Count : ℤ → Type 0
@@ -30,8 +30,8 @@ pub record Domain (v : ValidParams) (fs : List Frame) : Type 0 where
   pub counts : (i : ℕ) → i < length fs → Counts (getD fs i [])
 
 -- n frames of points
-pub domain-in : (v : ValidParams) (ps : List ℤ) (n : ℕ) → Settings v → n * v .channels ≤ length ps → Counts ps → Domain v (framesIn n (v .channels) ps)
-domain-in v ps n s h c = record {
+pub domain-in : (ps : List ℤ) {v : ValidParams} (n : ℕ) → Settings v → n * v .channels ≤ length ps → Counts ps → Domain v (framesIn n (v .channels) ps)
+domain-in ps {v} n s h c = record {
   settings = s;
   channels-are = λ i k. frame-length n (v .channels) ps i h (below i k);
   counts = λ i k. frame-counts i (below i k);
@@ -42,15 +42,11 @@ domain-in v ps n s h c = record {
 
     frame-counts : (i : ℕ) → i < n → Counts (getD (framesIn n (v .channels) ps) i [])
     frame-counts i k j l =
-        let e = frame-at n (v .channels) ps i k in
         let m : j < v .channels = subst (λ (w : ℕ). j < w) (frame-length n (v .channels) ps i h k) l in
-        subst Count (sym (ap (λ (f : Frame). getD f j (pos 0)) e ∙ getD-take (v .channels) (drop (i * v .channels) ps) j (pos 0) m ∙ getD-drop (i * v .channels) ps j (pos 0)))
+        subst Count (sym (ap (λ (f : Frame). getD f j (pos 0)) (frame-at n (v .channels) ps i k) ∙ getD-take (v .channels) (drop (i * v .channels) ps) j (pos 0) m ∙ getD-drop (i * v .channels) ps j (pos 0)))
         (c (i * v .channels + j) (omega (arith, frame-inside n (v .channels) (length ps) i h k)))
 
 -- every accepted run
 pub domain-of : (p : Params) (ps : List ℤ) (labels kinds work : ℕ) {v : ValidParams} → checkedOf p (length ps) labels kinds work ≡ Valid v → Counts ps → Domain v (framesOf (v .channels) ps)
 unfolding framesOf
-domain-of p ps labels kinds work e c =
-    let a = accepted p (length ps) labels kinds work e in
-    subst (λ (w : ValidParams). Domain w (framesOf (w .channels) ps)) (sym (a .settings))
-    (domain-in (validOf p) ps (length ps / p .channels) (settings-of p (a .good-tolerance) (a .low-power) (a .some-channels) (a .few-channels)) (omega (arith, div-add-mod' (length ps) (p .channels))) c)
+domain-of p ps labels kinds work {v} e c = domain-in ps (length ps / v .channels) (settings-in (accepted p (length ps) labels kinds work e)) (omega (arith, div-add-mod' (length ps) (v .channels))) c

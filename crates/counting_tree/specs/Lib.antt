@@ -6,6 +6,7 @@ pub mod Geometry
 pub mod Arrays
 pub mod Paths
 pub mod FramesIn
+pub mod Triangle
 pub mod Distance
 pub mod Margins
 pub mod Radius
@@ -18,5 +19,5 @@ pub mod WholeDistance
 pub mod Answers
 pub mod Settings
 pub mod Domain
+pub mod Ready
 pub mod Sound
-pub mod Triangle

@@ -17,6 +17,7 @@ use Rattle.hyperparams.specs.declared.Params.{Params}
 use Rattle.hyperparams.specs.declared.ValidParams.{ValidParams}
 use Rattle.hyperparams.specs.Params.{float, goodTolerance, wholeTolerance, slackAt, slackFrom, slackPower, appxTolerance, validOf}
 use Rattle.hyperparams.specs.Tolerance.{good-holds}
+use Rattle.hyperparams.specs.Accepted.{Accepted}
 use Rattle.counting_tree.specs.Sides.{Scale}
 use Rattle.counting_tree.specs.Tests.{Extended}
 
@@ -178,3 +179,7 @@ settings-of p h q some most =
       where
         shape : (a x b : ℕ) → a * (x * b) ≡ x * (a * b)
         shape a x b = omega arith
+
+-- every accepted run
+pub settings-in : {p : Params} {v : ValidParams} {points labels kinds work : ℕ} → Accepted p v points labels kinds work → Settings v
+settings-in {p} a = subst Settings (sym (a .settings)) (settings-of p (a .good-tolerance) (a .low-power) (a .some-channels) (a .few-channels))

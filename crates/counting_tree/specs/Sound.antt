@@ -26,13 +26,13 @@ use Rattle.counting_tree.specs.Domain.{Count, Counts, Domain}
 use Rattle.counting_tree.specs.declared.IntersectionType.the-variants.{Disjoint, FullyCovered, Intersecting}
 
 -- ---- to share a box is to have the same indexes
-same-int : (x y : ℤ) → T (sameInt x y) → x ≡ y
+pub same-int : (x y : ℤ) → T (sameInt x y) → x ≡ y
 same-int (pos a) (pos b) h = ap pos (eqb→eq a b h)
 same-int (pos a) (negsuc b) h = absurd h
 same-int (negsuc a) (pos b) h = absurd h
 same-int (negsuc a) (negsuc b) h = ap negsuc (eqb→eq a b h)
 
-int-same : (x : ℤ) → T (sameInt x x)
+pub int-same : (x : ℤ) → T (sameInt x x)
 int-same (pos a) = eqb-refl a
 int-same (negsuc a) = eqb-refl a
 

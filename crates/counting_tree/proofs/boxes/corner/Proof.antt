@@ -1,3 +1,4 @@
+-- The row is filled channel by channel, as the bits of the corner's number say.
 use mathlib.Core.Path.{_≡_, refl, sym, ap, subst, _∙_}
 use mathlib.Core.Bool.{true, false}
 use mathlib.Core.List.{List}

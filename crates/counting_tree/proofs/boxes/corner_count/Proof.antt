@@ -1,3 +1,4 @@
+-- A shift is a power of two.
 use mathlib.Core.Path.{_∙_}
 use Prim.Native.Nat.{_^_}
 use native.Mathlib.Nat.{one-mul}

@@ -1,3 +1,4 @@
+-- The answer by the outcomes of the four tests.
 use mathlib.Core.Path.{refl, sym, _∙_}
 use mathlib.Core.Bool.{true, false}
 use native.Mathlib.Omega.{arith}

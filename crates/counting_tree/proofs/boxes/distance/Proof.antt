@@ -1,3 +1,4 @@
+-- The root of the sum.
 use mathlib.Core.Path.{ap, _∙_}
 use Rattle.ieee754.specs.Root.{root}
 use Rattle.counting_tree.specs.Box as Definitions

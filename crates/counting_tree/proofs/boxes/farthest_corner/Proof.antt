@@ -1,3 +1,4 @@
+-- The loop keeps the larger of two distances.
 use mathlib.Core.Path.{_≡_, refl, ap, _∙_}
 use mathlib.Core.Bool.{true, false}
 use mathlib.Core.List.{map}

@@ -1,3 +1,4 @@
+-- The loop adds one squared difference a channel.
 use mathlib.Core.Path.{_≡_, refl, _∙_}
 use Prim.Native.Nat.{_-_, _≤_}
 use native.Mathlib.Omega.{arith}

@@ -1,3 +1,4 @@
+-- Both outcomes of the two comparisons.
 use Rattle.counting_tree.proofs.grid.around_zero.Statement.{statement}
 use Rattle.counting_tree.proofs.grid.around_zero.Tie as tie
 

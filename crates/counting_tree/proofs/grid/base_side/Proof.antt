@@ -1,3 +1,4 @@
+-- The base side is the tolerance divided by the root of the channels.
 use mathlib.Core.Path.{ap}
 use lib.Ieee.{binary64, div}
 use Rattle.counting_tree.specs.Grid.{sideAt, rootChannels}

@@ -1,3 +1,4 @@
+-- The index is read back from its bits, and is exact as a float.
 use mathlib.Core.Path.{ap, _∙_}
 use lib.IntN.{ℤ}
 use lib.Ieee.{binary64, ofInt, mul}
@@ -11,11 +12,9 @@ use Rattle.counting_tree.proofs.grid.cell_center.Tie as tie
 cell-index-requires : tie.Need-cell-index-requires
 cell-index-requires c κs = search needs
 
--- @START = c .before .before
 int-to-float-result : tie.Need-int-to-float-result
 int-to-float-result c = let b = c .before .before in index-back (c .before .cell-index .result) (b .args .side) (b .args .c) (b .pre) (coordinate (b .args .c) (b .fits .c)) (c .before .cell-index .ensures ∙ ap (index (b .args .side)) (toZ-ofZ (b .fits .c))) .0
 
--- @START = c .before .before
 returns : tie.Need-returns
 unfolding centre
 returns c = let b = c .before .before in ap (λ (k : ℤ). mul binary64 (ofInt binary64 k) (b .args .side)) (index-back (c .before .cell-index .result) (b .args .side) (b .args .c) (b .pre) (coordinate (b .args .c) (b .fits .c)) (c .before .cell-index .ensures ∙ ap (index (b .args .side)) (toZ-ofZ (b .fits .c))) .1)

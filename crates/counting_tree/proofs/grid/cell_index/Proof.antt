@@ -1,3 +1,4 @@
+-- The index by its three branches; what is rounded up is small.
 use mathlib.Core.Path.{refl, sym, ap, _∙_}
 use mathlib.Core.Bool.{true, false}
 use lib.IntN.{ℤ, negsuc, _+ℤ_}
@@ -18,7 +19,6 @@ half-side-requires c κs = search needs
 around-zero-requires : tie.Need-around-zero-requires
 around-zero-requires c κs = search needs
 
--- @START = c .before .before .before .before
 returns : tie.Need-returns
 unfolding indexBy
 returns c =
@@ -26,14 +26,12 @@ returns c =
     let x = ap (ofInt binary64) (toZ-ofZ (b .fits .c)) in
     by-tests (b .args .side) (c .before .before .half-side .result) _ (b .args .c) (c .before .before .half-side .ensures) x true _ (sym (c .before .around-zero .ensures) ∙ c .if1 .taken) refl
 
--- @START = c .before .before .before .before .before
 ceiling-requires : tie.Need-ceiling-requires
 ceiling-requires c κs =
     let b = c .before .before .before .before .before in
     let x = ap (ofInt binary64) (toZ-ofZ (b .fits .c)) in
     above-small (b .args .side) (c .before .before .before .half-side .result) _ (b .args .c) (c .before .before .before .half-side .ensures) x (b .pre) (coordinate (b .args .c) (b .fits .c))
 
--- @START = c .before .before .before .before .before .before
 returns-2 : tie.Need-returns-2
 unfolding indexBy
 returns-2 c =
@@ -42,14 +40,12 @@ returns-2 c =
     let z = above-small (b .args .side) (c .before .before .before .before .half-side .result) _ (b .args .c) (c .before .before .before .before .half-side .ensures) x (b .pre) (coordinate (b .args .c) (b .fits .c)) in
     toZ-ofZ (ceiling-fits _ _ (c .ceiling .ensures) z) ∙ c .ceiling .ensures ∙ by-tests (b .args .side) (c .before .before .before .before .half-side .result) _ (b .args .c) (c .before .before .before .before .half-side .ensures) x false true (sym (c .before .before .before .around-zero .ensures) ∙ c .before .before .if1 .left) (c .before .if2 .taken)
 
--- @START = c .before .before .before .before .before
 ceiling-requires-2 : tie.Need-ceiling-requires-2
 ceiling-requires-2 c κs =
     let b = c .before .before .before .before .before in
     let x = ap (ofInt binary64) (toZ-ofZ (b .fits .c)) in
     below-small (b .args .side) (c .before .before .before .half-side .result) _ (b .args .c) (c .before .before .before .half-side .ensures) x (b .pre) (coordinate (b .args .c) (b .fits .c))
 
--- @START = c .before .before .before .before .before .before
 add-result : tie.Need-add-result
 add-result c =
     let b = c .before .before .before .before .before .before in
@@ -57,7 +53,6 @@ add-result c =
     let z = below-small (b .args .side) (c .before .before .before .before .half-side .result) _ (b .args .c) (c .before .before .before .before .half-side .ensures) x (b .pre) (coordinate (b .args .c) (b .fits .c)) in
     rw (toZ-ofZ (ceiling-fits _ _ (c .ceiling2 .ensures) z)) (less-fits _ _ (c .ceiling2 .ensures) z)
 
--- @START = c .before .before .before .before .before .before
 returns-3 : tie.Need-returns-3
 unfolding indexBy
 returns-3 c =

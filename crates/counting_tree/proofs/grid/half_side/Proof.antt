@@ -1,3 +1,4 @@
+-- A half is a division by two.
 use mathlib.Core.Path.{refl}
 use lib.Ieee.{ofBits, ofInt}
 use Rattle.counting_tree.specs.Grid.{half}

@@ -1,0 +1,69 @@
+-- The invariant: the frames before i are told core or not, and the arrangement below is as it was.
+use mathlib.Core.Path.{refl}
+use Prim.Native.Nat.{_-_, _*_}
+use native.Mathlib.Omega.{arith}
+use Rattle.lists.specs.LoopLaws.{Fill, fill-start, fill-step, fill-length, fill-end}
+use Rattle.counting_tree.specs.Ready.{geometryAt}
+use Rattle.cells_grid.specs.Arrangement.{coreBit}
+use Rattle.cells_grid.proofs.Core.{fill-arranged}
+use Rattle.cells_grid.proofs.label_points.Statement.{statement}
+use Rattle.cells_grid.proofs.label_points.Tie as tie
+
+abbrev Inv-loop : tie.InvT-loop
+Inv-loop points v n k work₀ i₀ work i = Fill (coreBit (geometryAt v n points)) work₀ (4 * n) n work i
+
+abbrev μ-loop : tie.MeasureT-loop
+μ-loop points v n k work₀ i₀ work i = n - i
+
+loop-holds : tie.Need-loop-holds Inv-loop μ-loop
+loop-holds c = fill-start (omega arith)
+
+core-frame-requires : tie.Need-core-frame-requires Inv-loop μ-loop
+core-frame-requires c κs =
+    let p = c .before .before .before .before .pre in
+    (p .0, fill-arranged (p .0) (p .1) (c .before .before .loop .inv), c .before .loop-test .taken)
+
+mul-work : tie.Need-mul-work Inv-loop μ-loop
+mul-work c = omega arith
+
+add-work : tie.Need-add-work Inv-loop μ-loop
+add-work c = omega arith
+
+mul-work-2 : tie.Need-mul-work-2 Inv-loop μ-loop
+mul-work-2 c = omega arith
+
+slice-write-work : tie.Need-slice-write-work Inv-loop μ-loop
+slice-write-work c = omega (arith, fill-length (c .before .before .before .loop .inv))
+
+add-i : tie.Need-add-i Inv-loop μ-loop
+add-i c = omega arith
+
+loop-less : tie.Need-loop-less Inv-loop μ-loop
+loop-less c = omega arith
+
+loop-again : tie.Need-loop-again Inv-loop μ-loop
+loop-again c = fill-step (c .before .before .before .loop .inv) (c .before .before .loop-test .taken) _ _ refl (c .core-frame .ensures)
+
+same-length : tie.Need-same-length Inv-loop μ-loop
+same-length c = fill-length (c .before .loop .inv)
+
+returns : tie.Need-returns Inv-loop μ-loop
+returns c = fill-end (c .before .loop .inv) (c .loop-test .left)
+
+pub label-points-spec : {M : Type 1} → statement M
+label-points-spec =
+    tie.close
+    (tie.spec
+    Inv-loop
+    μ-loop
+    loop-holds
+    core-frame-requires
+    mul-work
+    add-work
+    mul-work-2
+    slice-write-work
+    add-i
+    loop-less
+    loop-again
+    same-length
+    returns)

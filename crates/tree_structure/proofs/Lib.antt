@@ -1,0 +1,6 @@
+pub mod Copying
+pub mod Parting
+pub mod Levels
+pub mod Building
+pub mod Copied
+pub mod Counting

@@ -1,0 +1,114 @@
+-- `spread` meets its contract: the invariant of its loop is `Spread`.
+use borrow.Author.Needs.{needs}
+use mathlib.Core.Path.{refl}
+use Prim.Native.Nat.{_-_}
+use native.Mathlib.Omega.{arith}
+use native.Mathlib.Nat.{le-antisymm}
+use Rattle.counting_tree.specs.Ready.{geometryAt}
+use Rattle.tree_structure.proofs.Parting.{Spread, spread-start, spread-sum, spread-length, spread-below, spread-keep, spread-lose}
+use Rattle.tree_structure.proofs.spread.Statement.{statement}
+use Rattle.tree_structure.proofs.spread.Tie as tie
+
+abbrev Inv-loop : tie.InvT-loop
+Inv-loop points v n work₀ scratch from m pivot level kept₀ lost₀ i₀ work kept lost i = Spread (geometryAt v n points .same level pivot) work₀ scratch from m work kept lost i
+
+abbrev μ-loop : tie.MeasureT-loop
+μ-loop points v n work₀ scratch from m pivot level kept₀ lost₀ i₀ work kept lost i = m - i
+
+loop-holds : tie.Need-loop-holds Inv-loop μ-loop
+loop-holds c = spread-start (c .before .pre .1 .0) (c .before .pre .1 .1)
+
+add-x : tie.Need-add-x Inv-loop μ-loop
+add-x c = omega arith
+
+mul-x : tie.Need-mul-x Inv-loop μ-loop
+mul-x c = omega arith
+
+slice-read-x : tie.Need-slice-read-x Inv-loop μ-loop
+slice-read-x c = omega (arith, spread-length (c .before .before .loop .inv))
+
+wide-requires : tie.Need-wide-requires Inv-loop μ-loop
+wide-requires c κs = search needs
+
+same-box-requires : tie.Need-same-box-requires Inv-loop μ-loop
+same-box-requires c κs = (c .before .before .before .before .before .pre .0 .0, c .before .before .before .before .before .pre .0 .2, c .before .before .before .before .before .pre .0 .1, omega (arith, c .wide .ensures, spread-below (c .before .before .before .loop .inv) (c .before .before .loop-test .taken) (c .before .before .before .before .before .pre .0 .3)))
+
+add-work : tie.Need-add-work Inv-loop μ-loop
+add-work c = omega (arith, spread-sum (c .before .before .before .before .before .loop .inv))
+
+mul-work : tie.Need-mul-work Inv-loop μ-loop
+mul-work c = omega (arith, spread-sum (c .before .before .before .before .before .loop .inv))
+
+slice-write-work : tie.Need-slice-write-work Inv-loop μ-loop
+slice-write-work c = omega (arith, spread-length (c .before .before .before .before .before .loop .inv), spread-sum (c .before .before .before .before .before .loop .inv))
+
+add-kept : tie.Need-add-kept Inv-loop μ-loop
+add-kept c = omega (arith, spread-sum (c .before .before .before .before .before .loop .inv))
+
+add-i : tie.Need-add-i Inv-loop μ-loop
+add-i c = omega arith
+
+loop-less : tie.Need-loop-less Inv-loop μ-loop
+loop-less c = omega arith
+
+loop-again : tie.Need-loop-again Inv-loop μ-loop
+loop-again c = spread-keep (c .before .before .before .before .before .loop .inv) (c .before .before .before .before .loop-test .taken) _ refl (c .before .before .wide .ensures) (c .before .same-box .ensures) (c .if1 .taken)
+
+add-work-2 : tie.Need-add-work-2 Inv-loop μ-loop
+add-work-2 c = omega (arith, spread-sum (c .before .before .before .before .before .loop .inv))
+
+mul-work-2 : tie.Need-mul-work-2 Inv-loop μ-loop
+mul-work-2 c = omega (arith, spread-sum (c .before .before .before .before .before .loop .inv))
+
+slice-write-work-2 : tie.Need-slice-write-work-2 Inv-loop μ-loop
+slice-write-work-2 c = omega (arith, spread-length (c .before .before .before .before .before .loop .inv), spread-sum (c .before .before .before .before .before .loop .inv))
+
+add-lost : tie.Need-add-lost Inv-loop μ-loop
+add-lost c = omega (arith, spread-sum (c .before .before .before .before .before .loop .inv))
+
+add-i-2 : tie.Need-add-i-2 Inv-loop μ-loop
+add-i-2 c = omega arith
+
+loop-less-2 : tie.Need-loop-less-2 Inv-loop μ-loop
+loop-less-2 c = omega arith
+
+loop-again-2 : tie.Need-loop-again-2 Inv-loop μ-loop
+loop-again-2 c = spread-lose (c .before .before .before .before .before .loop .inv) (c .before .before .before .before .loop-test .taken) _ refl (c .before .before .wide .ensures) (c .before .same-box .ensures) (c .if1 .left)
+
+same-length : tie.Need-same-length Inv-loop μ-loop
+same-length c = spread-length (c .before .loop .inv)
+
+returns : tie.Need-returns Inv-loop μ-loop
+returns c =
+    let q = c .before .loop .inv in
+    let e = le-antisymm (q .high) (c .loop-test .left) in
+    rw (← e) ((omega (arith, spread-sum q), q .is-kept), q .work)
+
+pub spread-spec : {M : Type 1} → statement M
+spread-spec =
+    tie.close
+    (tie.spec
+    Inv-loop
+    μ-loop
+    loop-holds
+    add-x
+    mul-x
+    slice-read-x
+    wide-requires
+    same-box-requires
+    add-work
+    mul-work
+    slice-write-work
+    add-kept
+    add-i
+    loop-less
+    loop-again
+    add-work-2
+    mul-work-2
+    slice-write-work-2
+    add-lost
+    add-i-2
+    loop-less-2
+    loop-again-2
+    same-length
+    returns)
