@@ -17,7 +17,7 @@ use Rattle.counting_tree.specs.FramesIn.{frames-length}
 use Rattle.counting_tree.specs.Geometry.{geometryOf, short}
 use Rattle.counting_tree.specs.Domain.{Counts, Domain, domain-of}
 use Rattle.counting_tree.specs.Sound as Boxes
-use Rattle.cells_grid.specs.Lawful.{Lawful}
+use Rattle.cells_grid.specs.Ready.{lawful}
 use Rattle.clustering.specs.Clusters.{none}
 use Rattle.appx_dbscan.specs.Transform.{transformOf, run, labelsLeft, kindsLeft, checkedCall}
 use Rattle.appx_dbscan.specs.Promise.{Nearer, FarReach, Promise}
@@ -25,20 +25,10 @@ use Rattle.appx_dbscan.specs.Sound.{Sound}
 use Rattle.appx_dbscan.specs.Theorem.{promise-over}
 
 module _ (reach : ℕ) (v : ValidParams) (fs : List Frame) where
-  pub lawful : Lawful (geometryOf reach v fs)
-  unfolding geometryOf
-  lawful = record {
-    same-self = Boxes.same-self v fs;
-    same-turn = Boxes.same-turn v fs;
-    same-join = Boxes.same-join v fs;
-    near-turn = Boxes.near-turn v fs reach;
-    box-same = Boxes.box-same v fs;
-  }
-
   pub sound : Domain v fs → Sound (geometryOf reach v fs) (Nearer v fs) (FarReach v fs)
   unfolding geometryOf
   sound D = record {
-    lawful = lawful;
+    lawful = lawful reach v fs;
     disjoint = Boxes.disjoint v fs D;
     covered = Boxes.covered v fs D;
     last = Boxes.last v fs D;

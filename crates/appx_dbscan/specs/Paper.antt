@@ -26,7 +26,7 @@ use Rattle.cells_grid.specs.Cells.{sameCell, members, first, listed, dense, nei
 use Rattle.cells_grid.specs.CellLaws.{first-same, first-in, first-lowest}
 use Rattle.appx_dbscan.specs.Transform.{transformOf}
 use Rattle.appx_dbscan.specs.Cases.{params, minus}
-use Rattle.appx_dbscan.specs.Accepted.{lawful}
+use Rattle.cells_grid.specs.Ready.{lawful}
 
 module _ (v : ValidParams) (fs : List Frame) where
   -- frames i and j lie within t, by the sum of squared differences

@@ -2,7 +2,7 @@
 use mathlib.Core.Path.{_≡_}
 use mathlib.Core.Bool.{cond}
 use mathlib.Core.List.{List, map}
-use Prim.Native.Nat.{ℕ, _*_, _≤_}
+use Prim.Native.Nat.{ℕ, _*_}
 use lib.ListN.{length, getD, take}
 use Rattle.lists.specs.Lists.{concat, total}
 use Rattle.lists.specs.Words.{part, column}
