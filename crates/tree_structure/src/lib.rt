@@ -71,7 +71,7 @@ fn copy_words(work: &mut [Word], from: usize, to: usize, m: usize)
 }
 
 // Makes the `m` words from `at` on 0.
-fn clear_words(work: &mut [Word], at: usize, m: usize)
+pub fn clear_words(work: &mut [Word], at: usize, m: usize)
     requires { ⌜ at + m ≤ length (now work) ⌝ }
     ensures { λ _. ⌜ now (work .exit) ≡ over (now (work .entry)) at (replicate m 0) ⌝ }
 {

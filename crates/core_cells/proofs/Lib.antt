@@ -1,0 +1,4 @@
+pub mod Building
+pub mod Counting
+pub mod Gathering
+pub mod Growing
