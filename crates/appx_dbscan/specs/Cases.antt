@@ -1,9 +1,11 @@
 -- Document 01, "Cases by letter (a to m proved together)": one computed table against the definitions.
 use mathlib.Core.Path.{_≡_, refl}
 use mathlib.Core.List.{List, [], _∷_, _++_, map}
-use Prim.Native.Nat.{ℕ, _*_}
+use Prim.Native.Nat.{ℕ}
 use lib.IntN.{ℤ, pos, negℤ}
-use lib.ListN.{length, replicate}
+use lib.Dec.{eqb}
+use lib.ListN.{replicate}
+use Rattle.lists.specs.Lists.{howMany}
 use lib.Ieee.{Float, nan, ofInt}
 use Rattle.hyperparams.specs.declared.Params.{Params}
 use Rattle.hyperparams.specs.Params.{float, slackAt, validOf, appxTolerance, checkedOf, numberOf}
@@ -14,7 +16,7 @@ use Rattle.counting_tree.specs.Box.{intersection}
 use Rattle.counting_tree.specs.Geometry.{side}
 use Rattle.appx_dbscan.specs.declared.Outcome.{Outcome}
 use Rattle.appx_dbscan.specs.declared.Outcome.the-variants.{Labelled, Refused}
-use Rattle.appx_dbscan.specs.Transform.{run, outcomeOf, labelsLeft, kindsLeft, checkedCall}
+use Rattle.appx_dbscan.specs.Transform.{run, outcomeOf, labelsLeft, kindsLeft, workLeft, checkedCall}
 
 -- channels, min_points, t and s
 abbrev pub params : ℕ → ℕ → Float → Float → Params
@@ -41,13 +43,15 @@ abbrev answerTold : Outcome → List ℕ
 answerTold (Labelled c m) = c ∷ m ∷ []
 answerTold (Refused r) = numberOf r ∷ []
 
--- the labels and kinds that a call leaves in slices of four, which held 7 and 9, and its outcome
+-- the labels and kinds that a call leaves in slices of four, which held 7 and 9, its outcome, and how many of 96 work words, which held 5, are 0 and how many still 5
 abbrev call : Params → List ℤ → List ℤ
 call p ps =
     let labels : List ℕ = replicate 4 7 in
     let kinds : List ℕ = replicate 4 9 in
-    let c = checkedCall p ps labels kinds (replicate 96 5) in
-    map pos (labelsLeft c ps labels ++ kindsLeft c ps kinds ++ answerTold (outcomeOf c ps))
+    let work : List ℕ = replicate 96 5 in
+    let c = checkedCall p ps labels kinds work in
+    let words = workLeft c ps work in
+    map pos (labelsLeft c ps labels ++ kindsLeft c ps kinds ++ answerTold (outcomeOf c ps) ++ (howMany (eqb 0) words ∷ howMany (eqb 5) words ∷ []))
 
 unfoldable pub computed : List (List ℤ)
 unfolding index side intersection appxTolerance slackAt checkedOf run ofInt
@@ -67,7 +71,7 @@ computed =
     ∷ call (params 1 2 nan (slackAt 0)) (pos 5 ∷ [])
     ∷ []
 
--- labels, kinds, then clusters and core frames
+-- labels, kinds, then clusters and core frames or a number, then work words that are 0 and that are as they were
 abbrev told4 : List ℕ → List ℕ → List ℕ → List ℤ
 told4 labels kinds counts = map pos (labels ++ kinds ++ counts)
 
@@ -80,12 +84,12 @@ expected =
     ∷ (pos 1 ∷ [])  -- (e) s = 0, q = 3 FullyCovered
     ∷ (pos 0 ∷ [])  -- (f) q = 4 Disjoint
     ∷ (pos 2 ∷ [])  -- (g) s = 1, q = 3 Intersecting
-    ∷ told4 (0 ∷ 0 ∷ 0 ∷ 7 ∷ []) (1 ∷ 2 ∷ 1 ∷ 9 ∷ []) (1 ∷ 1 ∷ [])  -- (h) only the frame 1 is core
-    ∷ told4 (65535 ∷ 65535 ∷ 65535 ∷ 7 ∷ []) (0 ∷ 0 ∷ 0 ∷ 9 ∷ []) (0 ∷ 0 ∷ [])  -- (i) three noise frames
-    ∷ told4 (0 ∷ 0 ∷ 1 ∷ 1 ∷ []) (2 ∷ 2 ∷ 2 ∷ 2 ∷ []) (2 ∷ 4 ∷ [])  -- (j) all core, labels 0, 0, 1, 1
-    ∷ told4 (0 ∷ 0 ∷ 0 ∷ 0 ∷ []) (2 ∷ 2 ∷ 2 ∷ 2 ∷ []) (1 ∷ 4 ∷ [])  -- (k) one cluster
-    ∷ told4 (7 ∷ 7 ∷ 7 ∷ 7 ∷ []) (9 ∷ 9 ∷ 9 ∷ 9 ∷ []) (1 ∷ [])  -- (l) min_points 1 with t = 0: number 1, nothing changed
-    ∷ told4 (7 ∷ 7 ∷ 7 ∷ 7 ∷ []) (9 ∷ 9 ∷ 9 ∷ 9 ∷ []) (4 ∷ [])  -- (m) NaN tolerance with slack 1: number 4, nothing changed
+    ∷ told4 (0 ∷ 0 ∷ 0 ∷ 7 ∷ []) (1 ∷ 2 ∷ 1 ∷ 9 ∷ []) (1 ∷ 1 ∷ 72 ∷ 24 ∷ [])  -- (h) only the frame 1 is core
+    ∷ told4 (65535 ∷ 65535 ∷ 65535 ∷ 7 ∷ []) (0 ∷ 0 ∷ 0 ∷ 9 ∷ []) (0 ∷ 0 ∷ 72 ∷ 24 ∷ [])  -- (i) three noise frames
+    ∷ told4 (0 ∷ 0 ∷ 1 ∷ 1 ∷ []) (2 ∷ 2 ∷ 2 ∷ 2 ∷ []) (2 ∷ 4 ∷ 96 ∷ 0 ∷ [])  -- (j) all core, labels 0, 0, 1, 1
+    ∷ told4 (0 ∷ 0 ∷ 0 ∷ 0 ∷ []) (2 ∷ 2 ∷ 2 ∷ 2 ∷ []) (1 ∷ 4 ∷ 96 ∷ 0 ∷ [])  -- (k) one cluster
+    ∷ told4 (7 ∷ 7 ∷ 7 ∷ 7 ∷ []) (9 ∷ 9 ∷ 9 ∷ 9 ∷ []) (1 ∷ 0 ∷ 96 ∷ [])  -- (l) min_points 1 with t = 0: number 1, nothing changed
+    ∷ told4 (7 ∷ 7 ∷ 7 ∷ 7 ∷ []) (9 ∷ 9 ∷ 9 ∷ 9 ∷ []) (4 ∷ 0 ∷ 96 ∷ [])  -- (m) NaN tolerance with slack 1: number 4, nothing changed
     ∷ []
 
 pub cases : computed ≡ expected

@@ -3,8 +3,6 @@ use mathlib.Core.Path.{_≡_, refl}
 use mathlib.Core.List.{List, [], _∷_, _++_}
 use Prim.Native.Nat.{ℕ}
 use lib.IntN.{ℤ, pos}
-use lib.ListN.{length}
-use Rattle.hyperparams.specs.declared.Params.{Params}
 use Rattle.hyperparams.specs.Params.{float, slackAt, validOf, wholeTolerance, slackPower, appxTolerance}
 use Rattle.appx_dbscan.specs.Transform.{Answer, run}
 use Rattle.appx_dbscan.specs.Cases.{params, minus}

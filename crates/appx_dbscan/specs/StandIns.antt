@@ -1,13 +1,12 @@
 -- "These stand-ins are shown to violate it": for each a named small input on which the promise, or the equation with the definitions, fails of it.
 use mathlib.Core.Path.{_≡_, refl, sym, ap, _∙_, subst}
-use mathlib.Core.Logic.{_⊎_, inl, inr}
+use mathlib.Core.Logic.{inl, inr}
 use mathlib.Core.Bool.{Bool, false, not, _&&_, cond}
 use mathlib.Core.List.{List, [], _∷_}
 use Prim.Native.Nat.{ℕ, _+_, _*_, _^_, _<_}
 use lib.IntN.{ℤ, pos}
 use lib.Dec.{T, T-not, ltb, eqb, eqb-refl, lit<, ltb→lt, lt→ltb}
 use lib.ListN.{length, getD, replicate}
-use lib.Ieee.{Float}
 use Rattle.lists.specs.Lists.{numbers, any, howMany, nonzero}
 use Rattle.lists.specs.Words.{column}
 use Rattle.lists.specs.ListLaws.{T-or-not, and-both, any-in, numbers-in}
@@ -23,7 +22,7 @@ use Rattle.clustering.specs.Clusters.{connected, place, clusters, labelBy, kind
 use Rattle.appx_dbscan.specs.declared.Outcome.{Outcome}
 use Rattle.appx_dbscan.specs.declared.Outcome.the-variants as Outcome
 use Rattle.appx_dbscan.specs.Transform.{Answer, transformOf, run, outcomeOf, labelsLeft, checkedCall}
-use Rattle.appx_dbscan.specs.Promise.{Chain, alone, step, CoreFrame, FarReach, NearStep, into-listed, Border, Noise, Promise}
+use Rattle.appx_dbscan.specs.Promise.{Chain, alone, step, CoreFrame, FarReach, into-listed, Border, Noise, Promise}
 use Rattle.appx_dbscan.specs.Cases.{params, minus}
 
 -- ---- the stand-ins, as answers that a run might give

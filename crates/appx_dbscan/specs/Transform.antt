@@ -1,5 +1,5 @@
 -- Document 01, module 6: the answer of a run, and what it leaves in each slice lent to it. Definitions only.
-use mathlib.Core.List.{List, map}
+use mathlib.Core.List.{List}
 use Prim.Native.Nat.{ℕ, _/_}
 use lib.IntN.{ℤ}
 use lib.ListN.{length, replicate}
@@ -10,20 +10,21 @@ use Rattle.hyperparams.specs.declared.Params.{Params}
 use Rattle.hyperparams.specs.declared.ValidParams.{ValidParams}
 use Rattle.hyperparams.specs.declared.Checked.{Checked}
 use Rattle.hyperparams.specs.declared.Checked.the-variants.{Valid, Refused}
-use Rattle.counting_tree.specs.Frames.{Frame, framesOf}
+use Rattle.counting_tree.specs.Frames.{framesOf}
 use Rattle.counting_tree.specs.Geometry.{Geometry, geometryOf, short}
 use Rattle.cells_grid.specs.Cells.{core}
 use Rattle.clustering.specs.Clusters.{clusters, place, labelBy, kindOf}
 use Rattle.appx_dbscan.specs.declared.Outcome.{Outcome}
 use Rattle.appx_dbscan.specs.declared.Outcome.the-variants as Outcome
 
--- "Results: per frame a label and a kind byte; also the number of clusters and of core frames."
+-- "Results: per frame a label .. and a kind byte ..; also the number of clusters and of core frames."
 pub record Answer : Type 0 where
   pub labels : List ℕ
   pub kinds : List ℕ
   pub clusterCount : ℕ
   pub coreCount : ℕ
 
+-- "`transform` as above": of a geometry
 unfoldable pub transformOf : Geometry → Answer
 unfolding labelBy kindOf clusters core
 transformOf g =
@@ -40,7 +41,7 @@ unfoldable pub run : ValidParams → List ℤ → Answer
 unfolding transformOf geometryOf framesOf
 run v ps = transformOf (geometryOf short v (framesOf (v .channels) ps))
 
--- "labels, or a number of the table"
+-- "receives labels or a number from document 01's table"
 abbrev pub outcomeOf : Checked → List ℤ → Outcome
 outcomeOf (Refused r) ps = Outcome.Refused r
 outcomeOf (Valid v) ps = Outcome.Labelled (run v ps .clusterCount) (run v ps .coreCount)

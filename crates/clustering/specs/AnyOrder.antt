@@ -26,9 +26,9 @@ OneAfter same c d x y = T (same x y) ⊎ (T (same x c) × T (same d y)) ⊎ (T (
 -- ---- `PartitionVec`, by what it does to the sets: how it holds them, and which leader a union keeps, is left open
 pub record Partition : Type 1 where
   pub State : Type 0
-  -- "same_set(c, d)"
+  -- `same_set`
   pub same : State → ℕ → ℕ → Bool
-  -- "union(c, d)"
+  -- `union`
   pub unite : ℕ → ℕ → State → State
   -- each cell in a set of its own
   pub start : State

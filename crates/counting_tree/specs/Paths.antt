@@ -6,12 +6,16 @@ use mathlib.Core.List.{List, [], _∷_}
 use Prim.Native.Nat.{ℕ, zero, suc}
 use lib.Dec.{T}
 use lib.ListN.{length}
-use Rattle.lists.specs.Lists.{any, headOr, nonzero, groups, In}
+use Rattle.lists.specs.Lists.{any, headOr, nonzero, total, groups, In}
 use Rattle.lists.specs.ListLaws.{true-T, both-ways, any-in, in-any, any-none, any-shuffle, in-nonzero, some-in}
-use Rattle.lists.specs.GroupLaws.{any-groups, group-alike}
+use Rattle.lists.specs.GroupLaws.{any-groups, group-alike, groups-length}
 use Rattle.counting_tree.specs.Tree.{byBox, orElse, firstOf, counted}
 use Rattle.counting_tree.specs.declared.IntersectionType.{IntersectionType}
 use Rattle.counting_tree.specs.declared.IntersectionType.the-variants.{Disjoint, FullyCovered, Intersecting}
+
+-- "Every node's count is the number of frames under it, and equals the sum of its children's counts where it has any."
+pub children-sum : (same : ℕ → ℕ → ℕ → Bool) (l : ℕ) (xs : List ℕ) → total length (groups (same (suc l)) xs) ≡ length xs
+children-sum same l xs = groups-length (same (suc l)) xs
 
 abbrev pub onBox : IntersectionType → Bool → Bool
 onBox Disjoint below = false

@@ -173,7 +173,7 @@ module _ (v : ValidParams) (fs : List Frame) (D : Domain v fs) where
   pub cell : (i j : ℕ) → i < length fs → j < length fs → T (sameBox v fs 0 i j) → N v fs i j * 4 ^ v .s < v .t * (2 ^ v .s + 1) * (v .t * (2 ^ v .s + 1)) + 4 ^ v .s
   cell i j h k e = cell-reach (N v fs i j) (v .t) (2 ^ v .s) (4 ^ v .s) (pow-pos (v .s)) (four-power (v .s)) (cell-near i j h k e)
 
-  -- "between frames distance ≤ t is sum of squares ≤ t × t"
+  -- between frames "distance ≤ t" is "sum of squares ≤ t × t"
   pub within-whole : (i j : ℕ) → i < length fs → j < length fs → within v fs i j ≡ leb (N v fs i j) (v .t * v .t)
   unfolding within
   within-whole i j h k = within-frames (D .settings .scale) (frames-pair i j h k) (D .channels-are i h)

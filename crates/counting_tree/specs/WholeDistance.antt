@@ -74,7 +74,7 @@ squared-small (channel {x} {y} {xs} {ys} h k c) = go (apart x y * apart x y) (sq
 pub squared-le : {d : ℕ} {t : Float} {τ : ℕ} → Scale d t τ → {xs ys : Frame} → Pair xs ys → length xs ≡ d → squared xs ys ≤ 2 ^ 34
 squared-le S {xs} c e = le-trans (squared-small c) (le-trans (mul-le-mul-right (2 ^ 32) (le-trans (le-of-eq e) (S .most))) (lit≤ tt))
 
--- "between frames distance ≤ t is sum of squares ≤ t × t"
+-- between frames "distance ≤ t" is "sum of squares ≤ t × t"
 pub within-frames : {d : ℕ} {t : Float} {τ : ℕ} → Scale d t τ → {xs ys : Frame} → Pair xs ys → length xs ≡ d → le (distance (floats xs) (floats ys)) t ≡ leb (squared xs ys) (τ * τ)
 unfolding distance
 within-frames {d} {t} {τ} S {xs} {ys} c e =

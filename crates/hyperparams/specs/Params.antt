@@ -59,7 +59,7 @@ validOf p = record {
 abbrev pub levels : ℕ → ℕ
 levels s = 1 + s
 
--- "Work memory: unsigned 16-bit words, frames × (16 + 4 × (L + 1))"
+-- "Work memory (added): unsigned 16-bit words, frames × (16 + 4 × (L + 1))."
 abbrev pub workWords : ℕ → ℕ → ℕ
 workWords frames s = frames * (16 + 4 * (levels s + 1))
 

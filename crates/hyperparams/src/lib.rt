@@ -103,7 +103,7 @@ pub fn appx_tolerance(tolerance: f64, slack: f64) -> f64
     tolerance * (1.0 + slack)
 }
 
-// "Work memory: unsigned 16-bit words, frames × (16 + 4 × (L + 1))", "Levels below the root: L = 1 + s."
+// "Work memory (added): unsigned 16-bit words, frames × (16 + 4 × (L + 1)).", "Levels below the root: L = 1 + s."
 pub fn work_words(frames: usize, s: usize) -> usize
     requires frames { ⌜ frames ≤ maxFrames ⌝ }
     requires s { ⌜ s ≤ 10 ⌝ }

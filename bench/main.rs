@@ -1,0 +1,220 @@
+//! Times this library and the original on the same frames in one run of one program.
+//! The figure is processor time of the thread, the least of several runs, in milliseconds. Of the original `transform` alone is timed, with
+//! both of its searches for listed cells: the counts stand ready as floats, and what it allocates is in its time.
+//! Of this library the whole call is timed: table of refusals, run, copying out, clearing of the needed work words.
+//! The buffers lent to it are filled with other words before each run, outside the time: nothing is cleared for it.
+//! usage: bench [--seed N] [--quick]
+use original::appx_dbscan::{plain, probe};
+use original::library::{self, work_words};
+use original::random::{count, Random};
+use original::{rows, settings, Search};
+
+#[repr(C)]
+struct Timespec {
+    seconds: i64,
+    nanoseconds: i64,
+}
+extern "C" {
+    fn clock_gettime(clock: i32, time: *mut Timespec) -> i32;
+}
+const THREAD_CPUTIME: i32 = 3;
+
+/// Seconds of this thread on a processor.
+fn now() -> f64 {
+    let mut t = Timespec {
+        seconds: 0,
+        nanoseconds: 0,
+    };
+    let answer = unsafe { clock_gettime(THREAD_CPUTIME, &mut t) };
+    assert_eq!(answer, 0, "the system tells no processor time");
+    t.seconds as f64 + t.nanoseconds as f64 * 1e-9
+}
+
+/// The least time of one run, in milliseconds: at least 3 runs, and more up to 40 while all of them are short.
+fn least(quick: bool, mut run: impl FnMut() -> f64) -> f64 {
+    let (mut best, mut all) = (f64::INFINITY, 0.0);
+    for k in 0..40 {
+        let took = run();
+        best = best.min(took);
+        all += took;
+        if k >= 2 && all > if quick { 0.05 } else { 0.5 } {
+            break;
+        }
+    }
+    best * 1e3
+}
+
+struct Set {
+    name: &'static str,
+    channels: usize,
+    frames: usize,
+    t: f64,
+    min_points: usize,
+    s: usize,
+    points: Vec<i16>,
+}
+
+fn make(rng: &mut Random, kind: &str, channels: usize, n: usize) -> Vec<i16> {
+    let waves = [(12000.0, 15.0), (9000.0, 15.0), (4000.0, 15.0), (1500.0, 30.0)];
+    let hearts: Vec<f64> = (0..5 * channels).map(|_| rng.between(-20000.0, 20000.0)).collect();
+    let mut points = Vec::new();
+    for i in 0..n {
+        let heart = rng.below(5) * channels;
+        for k in 0..channels {
+            points.push(match kind {
+                "dense" => count(hearts[heart + k] + 60.0 * rng.normal()),
+                "uniform" => rng.range(-32768, 32767) as i16,
+                "telemetry" => count(
+                    waves[k].0 * (std::f64::consts::TAU / n as f64 * i as f64 * waves[k].1 + 0.7 * k as f64).sin() + 25.0 * rng.normal(),
+                ),
+                _ => unreachable!(),
+            });
+        }
+    }
+    points
+}
+
+struct Times {
+    scan: f64,
+    tree: f64,
+    ours: f64,
+}
+
+impl Times {
+    fn original(&self) -> f64 {
+        self.scan.min(self.tree)
+    }
+    fn ratio(&self) -> f64 {
+        self.original() / self.ours
+    }
+}
+
+fn measure(c: &Set, quick: bool) -> Times {
+    let slack = 0.5f64.powi(c.s as i32);
+    let floats = rows(&c.points, c.channels);
+    let original = |search| {
+        let params = settings(c.min_points, c.t, slack, search).unwrap();
+        least(quick, || {
+            let start = now();
+            let labels = plain(&floats, &params);
+            let took = now() - start;
+            assert_eq!(std::hint::black_box(labels).len(), c.frames);
+            took
+        })
+    };
+    let (scan, tree) = (original(Search::LinearSearch), original(Search::KdTree));
+    let needed = work_words(c.frames, c.s);
+    let (mut labels, mut kinds, mut work) = (vec![0u16; c.frames], vec![0u8; c.frames], vec![0u16; needed]);
+    let ours = least(quick, || {
+        labels.fill(0xabab);
+        kinds.fill(0xab);
+        work.fill(0xabab);
+        let start = now();
+        let answer = library::transform(&c.points, c.channels, c.min_points, c.t, slack, &mut labels, &mut kinds, &mut work);
+        let took = now() - start;
+        assert_eq!(std::hint::black_box(answer).refusal, 0);
+        took
+    });
+    // the two answers are the same
+    let answer = probe(&floats, &settings(c.min_points, c.t, slack, Search::KdTree).unwrap(), None);
+    let theirs: Vec<u16> = answer.labels.iter().map(|l| l.map_or(65535, |l| l as u16)).collect();
+    assert!(theirs == labels && answer.kinds == kinds, "{}: the answers differ", c.name);
+    Times { scan, tree, ours }
+}
+
+fn main() {
+    let (mut seed, mut quick) = (1, false);
+    let mut args = std::env::args().skip(1);
+    while let Some(a) = args.next() {
+        match a.as_str() {
+            "--seed" => seed = args.next().and_then(|n| n.parse().ok()).expect("--seed N"),
+            "--quick" => quick = true,
+            _ => panic!("unknown flag {}", a),
+        }
+    }
+    let shapes = [
+        ("dense, t 200", "dense", 200.0, 8),
+        ("uniform, t 50", "uniform", 50.0, 4),
+        ("uniform, t 5000", "uniform", 5000.0, 4),
+        ("telemetry, t 100", "telemetry", 100.0, 4),
+        ("telemetry, t 500", "telemetry", 500.0, 8),
+    ];
+    println!(
+        "Milliseconds of processor time, the least of several runs; \"times faster\" is the original with the faster of its two searches"
+    );
+    println!(
+        "for listed cells, divided by this library. Buffers lent to this library are not cleared for it: they are full of other words.\n"
+    );
+    let (mut lowest, mut product, mut number) = (f64::INFINITY, 0.0, 0);
+    for channels in [4, 1] {
+        println!("4,096 frames, {} channel{}\n\n| set | s | original, scan | original, kd-tree | this library | times faster |\n|---|---|---|---|---|---|", channels, if channels > 1 { "s" } else { "" });
+        for (name, kind, t, min_points) in shapes {
+            let points = make(&mut Random::new(seed), kind, channels, 4096);
+            for s in [0, 3, 7, 10] {
+                let times = measure(
+                    &Set {
+                        name,
+                        channels,
+                        frames: 4096,
+                        t,
+                        min_points,
+                        s,
+                        points: points.clone(),
+                    },
+                    quick,
+                );
+                println!(
+                    "| {} | {} | {:.2} | {:.2} | {:.2} | {:.2} |",
+                    name,
+                    s,
+                    times.scan,
+                    times.tree,
+                    times.ours,
+                    times.ratio()
+                );
+                lowest = times.ratio().min(lowest);
+                product += times.ratio().ln();
+                number += 1;
+            }
+        }
+        println!();
+    }
+    println!(
+        "Growth, 4 channels, s 3: original (faster search) / this library, and this library's time at 4,096 frames over that at 512\n"
+    );
+    println!("| set | 512 | 1,024 | 2,048 | 4,096 | original grows | this library grows |\n|---|---|---|---|---|---|---|");
+    for (name, kind, t, min_points) in shapes {
+        let times: Vec<Times> = [512, 1024, 2048, 4096]
+            .iter()
+            .map(|n| {
+                measure(
+                    &Set {
+                        name,
+                        channels: 4,
+                        frames: *n,
+                        t,
+                        min_points,
+                        s: 3,
+                        points: make(&mut Random::new(seed), kind, 4, *n),
+                    },
+                    quick,
+                )
+            })
+            .collect();
+        let each: Vec<String> = times.iter().map(|x| format!("{:.2} / {:.2}", x.original(), x.ours)).collect();
+        println!(
+            "| {} | {} | {:.1} | {:.1} |",
+            name,
+            each.join(" | "),
+            times[3].original() / times[0].original(),
+            times[3].ours / times[0].ours
+        );
+    }
+    println!(
+        "\nbench: seed {}, {} sets of 4,096 frames, times faster: least {:.2}, geometric mean {:.2}",
+        seed,
+        number,
+        lowest,
+        (product / number as f64).exp()
+    );
+}
