@@ -8,3 +8,4 @@ pub mod Examples
 pub mod Theorem
 pub mod Accepted
 pub mod Paper
+pub mod Filled

@@ -5,3 +5,7 @@ pub mod Leaders
 pub mod AnyOrder
 pub mod LeaderPartition
 pub mod AnyList
+pub mod Uniting
+pub mod UnitingLaws
+pub mod Numbering
+pub mod NumberingLaws

@@ -1,0 +1,5 @@
+pub mod Copying
+pub mod Within
+pub mod Phases
+pub mod Answer
+pub mod Call

@@ -1,0 +1,11 @@
+pub mod Held
+pub mod Touching
+pub mod Lent
+pub mod Trying
+pub mod Pairs
+pub mod Flat
+pub mod Phases
+pub mod Numbered
+pub mod Labelled
+pub mod Columns
+pub mod Whole

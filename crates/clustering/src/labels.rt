@@ -1,0 +1,145 @@
+// The clusters, numbered, and the labels and kinds of frames (`label` of the source).
+use crate::CLUSTERS;
+use crate::KINDS;
+use crate::LABELS;
+use crate::LEADERS;
+use crate::NONE;
+use cells_grid::Word;
+use hyperparams::ValidParams;
+ghost use mathlib.Core.Path.{_≡_};
+ghost use Prim.Native.Nat.{_*_, _<_, _≤_};
+ghost use lib.ListN.{length};
+ghost use Rattle.lists.specs.Lists.{numbers, keep, howMany, headOr};
+ghost use Rattle.lists.specs.Words.{over, part, column};
+ghost use Rattle.hyperparams.specs.Params.{maxFrames};
+ghost use Rattle.counting_tree.specs.Ready.{geometryAt, Ready};
+ghost use Rattle.cells_grid.specs.Cells.{cellNumber};
+ghost use Rattle.core_cells.specs.Forest.{Grown};
+ghost use Rattle.clustering.specs.Clusters.{place, clusters, labelBy, kindOf};
+ghost use Rattle.clustering.specs.Numbering.{treeIn, lowestIn, Led, leads, numberBy, clusterWord, bordersAt};
+
+// The label and the kind of a frame.
+pub struct FrameLabel {
+    pub label: Word,
+    pub kind: u8,
+}
+
+// Numbers the clusters in ascending order of their lowest cells, and writes the number of each core cell's. Returns how many there are.
+pub fn number_clusters(work: &mut [Word], n: usize, k: usize) -> usize
+    requires { ⌜ (k ≤ n) × (n ≤ maxFrames) × (8 * n ≤ length (now work)) × Led (treeIn (now work) n) (lowestIn (now work) n) k ⌝ }
+    ensures count { λ r. ⌜ r ≡ howMany (leads (treeIn (now (work .entry)) n) (lowestIn (now (work .entry)) n)) (numbers k) ⌝ }
+    ensures work { λ _. ⌜ now (work .exit) ≡ over (now (work .entry)) (7 * n) (column (numberBy (treeIn (now (work .entry)) n) (lowestIn (now (work .entry)) n)) k) ⌝ }
+{
+    let mut m = 0;
+    let mut c = 0;
+    while c < k {
+        let next = c + 1;
+        let at = CLUSTERS * n + c;
+        if core_cells::has_tree(work, n, c) {
+            let lowest = cells_grid::word(work, LEADERS * n + c);
+            if lowest == c {
+                work[at] = m as Word;
+                m += 1;
+                c = next;
+            } else {
+                work[at] = work[CLUSTERS * n + lowest];
+                c = next;
+            }
+        } else {
+            work[at] = 0;
+            c = next;
+        }
+    }
+    m
+}
+
+// Whether frame i, of cell `own`, has a non-zero count in the tree of cell c, and `own` lists c.
+fn borders(
+    points: &[i16],
+    v: ValidParams,
+    n: usize,
+    k: usize,
+    work: &[Word],
+    i: usize,
+    own: usize,
+    c: usize,
+) -> bool
+    requires { ⌜ Ready (now points) v n × Grown (geometryAt v n (now points)) k (now work) × (i < n) × (own < k) × (c < k) ⌝ }
+    ensures { λ r. ⌜ r ≡ bordersAt (geometryAt v n (now (points .entry))) own i c ⌝ }
+{
+    if cells_grid::is_listed(points, v, n, work, own, c) {
+        let t = core_cells::tree_count(points, v, n, k, work, i, c);
+        return t.count != 0;
+    }
+    false
+}
+
+// The first listed cell in whose tree frame i has a non-zero count; k where there is none.
+fn border_cell(points: &[i16], v: ValidParams, n: usize, k: usize, work: &[Word], i: usize) -> usize
+    requires { ⌜ Ready (now points) v n × Grown (geometryAt v n (now points)) k (now work) × (i < n) ⌝ }
+    ensures cell { λ r. ⌜ (let g = geometryAt v n (now (points .entry)) in r ≡ headOr k (keep (bordersAt g (cellNumber g i) i) (numbers k))) ⌝ }
+    ensures low { λ r. ⌜ r ≤ k ⌝ }
+{
+    let own = cells_grid::word(work, i);
+    let mut b = 0;
+    while b < k {
+        if borders(points, v, n, k, work, i, own, b) {
+            return b;
+        }
+        b += 1;
+    }
+    k
+}
+
+// The label and the kind of frame i.
+pub fn label_frame(
+    points: &[i16],
+    v: ValidParams,
+    n: usize,
+    k: usize,
+    work: &[Word],
+    i: usize,
+) -> FrameLabel
+    requires { ⌜ Ready (now points) v n × Grown (geometryAt v n (now points)) k (now work) × (i < n) ⌝ }
+    requires { ⌜ (8 * n ≤ length (now work)) × (part (now work) (7 * n) k ≡ column (clusterWord (geometryAt v n (now points))) k) ⌝ }
+    ensures label { λ r. ⌜ (let g = geometryAt v n (now (points .entry)) in r .label ≡ labelBy g (λ c. place c (clusters g)) i) ⌝ }
+    ensures kind { λ r. ⌜ r .kind ≡ kindOf (geometryAt v n (now (points .entry))) i ⌝ }
+{
+    if cells_grid::is_core(work, n, i) {
+        let own = cells_grid::word(work, i);
+        let at = CLUSTERS * n + own;
+        return FrameLabel {
+            label: work[at],
+            kind: 2,
+        };
+    }
+    let b = border_cell(points, v, n, k, work, i);
+    if b == k {
+        return FrameLabel {
+            label: NONE,
+            kind: 0,
+        };
+    }
+    let at = CLUSTERS * n + b;
+    FrameLabel {
+        label: work[at],
+        kind: 1,
+    }
+}
+
+// Writes the label and the kind of each frame.
+pub fn label_frames(points: &[i16], v: ValidParams, n: usize, k: usize, work: &mut [Word])
+    requires { ⌜ Ready (now points) v n × Grown (geometryAt v n (now points)) k (now work) ⌝ }
+    requires { ⌜ (10 * n ≤ length (now work)) × (part (now work) (7 * n) k ≡ column (clusterWord (geometryAt v n (now points))) k) ⌝ }
+    ensures { λ _. ⌜ (let g = geometryAt v n (now (points .entry)) in now (work .exit) ≡ over (over (now (work .entry))
+        (8 * n) (column (labelBy g (λ c. place c (clusters g))) n))
+        (9 * n) (column (kindOf g) n)) ⌝ }
+{
+    let mut i = 0;
+    while i < n {
+        let f = label_frame(points, v, n, k, work, i);
+        work[LABELS * n + i] = f.label;
+        work[KINDS * n + i] = f.kind as Word;
+        i += 1;
+    }
+}
