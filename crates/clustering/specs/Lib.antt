@@ -9,3 +9,4 @@ pub mod Uniting
 pub mod UnitingLaws
 pub mod Numbering
 pub mod NumberingLaws
+pub mod AnyLabels
