@@ -2,11 +2,11 @@
 use mathlib.Core.Path.{_≡_, refl}
 use mathlib.Core.List.{List, [], _∷_, _++_, map}
 use Prim.Native.Nat.{ℕ}
-use lib.IntN.{ℤ, pos, negℤ}
+use lib.IntN.{ℤ, pos}
 use lib.Dec.{eqb}
 use lib.ListN.{replicate}
 use Rattle.lists.specs.Lists.{howMany}
-use lib.Ieee.{Float, nan, ofInt}
+use lib.Ieee.{nan, ofInt}
 use Rattle.hyperparams.specs.declared.Params.{Params}
 use Rattle.hyperparams.specs.Params.{float, slackAt, validOf, appxTolerance, checkedOf, numberOf}
 use Rattle.counting_tree.specs.declared.IntersectionType.{IntersectionType}
@@ -17,13 +17,7 @@ use Rattle.counting_tree.specs.Geometry.{side}
 use Rattle.appx_dbscan.specs.declared.Outcome.{Outcome}
 use Rattle.appx_dbscan.specs.declared.Outcome.the-variants.{Labelled, Refused}
 use Rattle.appx_dbscan.specs.Transform.{run, outcomeOf, labelsLeft, kindsLeft, workLeft, checkedCall}
-
--- channels, min_points, t and s
-abbrev pub params : ℕ → ℕ → Float → Float → Params
-params d m t slack = record { channels = d; «min_points» = m; tolerance = t; slack = slack }
-
-abbrev pub minus : ℕ → ℤ
-minus n = negℤ (pos n)
+use Rattle.appx_dbscan.specs.Small.{params, minus}
 
 -- "One channel, t = 2, side 2": the base side of these settings
 abbrev indexAt2 : ℤ → ℤ

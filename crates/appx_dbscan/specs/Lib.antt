@@ -1,6 +1,7 @@
 pub mod Transform
 pub mod Promise
 pub mod Sound
+pub mod Small
 pub mod Cases
 pub mod StandIns
 pub mod Misreadings

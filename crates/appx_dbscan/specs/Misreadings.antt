@@ -1,40 +1,26 @@
 -- Document 01, "Misreadings that the first draft will have": each as an answer that a run might give, and a small input on which its labels are wrong.
-use mathlib.Core.Path.{_≡_, refl, subst}
-use mathlib.Core.Bool.{Bool, false, not, _||_, cond}
+use mathlib.Core.Path.{_≡_, refl}
+use mathlib.Core.Bool.{Bool, false, _||_, cond}
 use mathlib.Core.List.{List, [], _∷_, map}
 use Prim.Native.Nat.{ℕ, _*_}
 use lib.IntN.{ℤ, pos, negℤ}
-use lib.Dec.{T, T-not, leb, ltb, eqb, eqb-refl}
-use lib.ListN.{length, getD}
+use lib.Dec.{leb, ltb}
+use lib.ListN.{length}
 use lib.Ieee.{Float, binary64, neg, add, div, ofInt}
 use Rattle.lists.specs.Lists.{keep, any, nonzero}
 use Rattle.lists.specs.Words.{column}
 use Rattle.ieee754.specs.Ceil.{ceil}
 use Rattle.hyperparams.specs.declared.ValidParams.{ValidParams}
-use Rattle.hyperparams.specs.Params.{float, slackAt, validOf, wholeTolerance, slackPower, appxTolerance}
+use Rattle.hyperparams.specs.Params.{wholeTolerance, slackPower, appxTolerance}
 use Rattle.counting_tree.specs.Frames.{Frame, squared, floats}
 use Rattle.counting_tree.specs.Grid.{half, indexes, centre}
 use Rattle.counting_tree.specs.Box.{intersection}
 use Rattle.counting_tree.specs.Tree.{counted}
-use Rattle.counting_tree.specs.Geometry.{Geometry, geometryOf, short, sameInts, side, frame}
+use Rattle.counting_tree.specs.Geometry.{Geometry, geometryOf, sameInts, side, frame}
 use Rattle.cells_grid.specs.Cells.{first, members, listed, list, core, coreMembers, coreCell, coreCells, node, count}
 use Rattle.clustering.specs.Clusters.{connected, place, clusters, touches, linked, touched, borderLabel, labelBy, none}
 use Rattle.appx_dbscan.specs.Transform.{transformOf}
-use Rattle.appx_dbscan.specs.Cases.{params, minus}
-
--- the labels of two answers differ at frame i
-differ-at : (i : ℕ) (a b : List ℕ) → T (not (eqb (getD a i 0) (getD b i 0))) → a ≡ b → ⊥
-differ-at i a b n e = T-not (eqb (getD a i 0) (getD b i 0)) n (subst (λ (z : List ℕ). T (eqb (getD a i 0) (getD z i 0))) e (eqb-refl (getD a i 0)))
-
-abbrev grid : ValidParams → List Frame → Geometry
-grid v fs = geometryOf short v fs
-
--- a run of one channel: min_points, t and s
-abbrev valid : ℕ → ℕ → ℕ → ValidParams
-valid m t s = validOf (params 1 m (float t) (slackAt s))
-
-abbrev frames : List ℤ → List Frame
-frames = map (λ z. z ∷ [])
+use Rattle.appx_dbscan.specs.Small.{minus, valid, frames, grid, valid-j, frames-j, differ-at}
 
 -- ---- "Listing by cell index instead of first frame": case (j) becomes one cluster
 module _ (v : ValidParams) (fs : List Frame) where
@@ -51,12 +37,6 @@ module _ (v : ValidParams) (fs : List Frame) where
         within = g .within;
         box = g .box;
       }
-
-abbrev valid-j : ValidParams
-valid-j = validOf (params 2 2 (float 100) (slackAt 0))
-
-abbrev frames-j : List Frame
-frames-j = (minus 35 ∷ minus 35 ∷ []) ∷ (pos 35 ∷ pos 0 ∷ []) ∷ (pos 176 ∷ pos 35 ∷ []) ∷ (pos 107 ∷ pos 0 ∷ []) ∷ []
 
 pub by-index-fails : transformOf (byIndex valid-j frames-j) .labels ≡ transformOf (grid valid-j frames-j) .labels → ⊥
 unfolding byIndex transformOf geometryOf wholeTolerance slackPower appxTolerance

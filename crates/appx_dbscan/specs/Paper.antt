@@ -13,7 +13,7 @@ use Rattle.lists.specs.Lists.{numbers, keep, howMany}
 use Rattle.lists.specs.ListLaws.{true-T, and-left, and-right, and-both, both-ways, T-or-not, nonzero-true, in-keep, some-in, keep-same, keep-more, in-numbers}
 use Rattle.lists.specs.CountLaws.{total-plus, total-bool}
 use Rattle.lists.specs.Words.{column}
-use Rattle.ieee754.specs.Norm.{sq-lt-back}
+use Rattle.ring.specs.Nat.{sq-lt-back}
 use Rattle.hyperparams.specs.declared.ValidParams.{ValidParams}
 use Rattle.hyperparams.specs.Params.{float, slackAt, validOf, wholeTolerance, slackPower, appxTolerance}
 use Rattle.counting_tree.specs.Frames.{Frame}
@@ -25,7 +25,7 @@ use Rattle.counting_tree.specs.Sound.{cell-near, within-whole}
 use Rattle.cells_grid.specs.Cells.{sameCell, members, first, listed, dense, neighbour, core}
 use Rattle.cells_grid.specs.CellLaws.{first-same, first-in, first-lowest}
 use Rattle.appx_dbscan.specs.Transform.{transformOf}
-use Rattle.appx_dbscan.specs.Cases.{params, minus}
+use Rattle.appx_dbscan.specs.Small.{params, minus, valid-j, frames-j}
 use Rattle.cells_grid.specs.Ready.{lawful}
 
 module _ (v : ValidParams) (fs : List Frame) where
@@ -240,9 +240,6 @@ unfolding paperCore core geometryOf wholeTolerance
 missed-line = (refl, refl, refl)
 
 -- case (j) by lists of the bound 25 × t × t: one cluster
-abbrev frames-j : List Frame
-frames-j = (minus 35 ∷ minus 35 ∷ []) ∷ (pos 35 ∷ pos 0 ∷ []) ∷ (pos 176 ∷ pos 35 ∷ []) ∷ (pos 107 ∷ pos 0 ∷ []) ∷ []
-
-wide-j : transformOf (geometryOf 25 (validOf (params 2 2 (float 100) (slackAt 0))) frames-j) ≡ record { labels = 0 ∷ 0 ∷ 0 ∷ 0 ∷ []; kinds = 2 ∷ 2 ∷ 2 ∷ 2 ∷ []; clusterCount = 1; coreCount = 4 }
+wide-j : transformOf (geometryOf 25 valid-j frames-j) ≡ record { labels = 0 ∷ 0 ∷ 0 ∷ 0 ∷ []; kinds = 2 ∷ 2 ∷ 2 ∷ 2 ∷ []; clusterCount = 1; coreCount = 4 }
 unfolding transformOf geometryOf wholeTolerance slackPower appxTolerance
 wide-j = refl

@@ -1,11 +1,11 @@
 -- "These stand-ins are shown to violate it": for each a named small input on which the promise, or the equation with the definitions, fails of it.
-use mathlib.Core.Path.{_≡_, refl, sym, ap, _∙_, subst}
+use mathlib.Core.Path.{_≡_, refl, sym, ap, _∙_}
 use mathlib.Core.Logic.{inl, inr}
 use mathlib.Core.Bool.{Bool, false, not, _&&_, cond}
 use mathlib.Core.List.{List, [], _∷_}
 use Prim.Native.Nat.{ℕ, _+_, _*_, _^_, _<_}
 use lib.IntN.{ℤ, pos}
-use lib.Dec.{T, T-not, ltb, eqb, eqb-refl, lit<, ltb→lt, lt→ltb}
+use lib.Dec.{T, T-not, ltb, lit<, ltb→lt, lt→ltb}
 use lib.ListN.{length, getD, replicate}
 use Rattle.lists.specs.Lists.{numbers, any, howMany, nonzero}
 use Rattle.lists.specs.Words.{column}
@@ -23,7 +23,7 @@ use Rattle.appx_dbscan.specs.declared.Outcome.{Outcome}
 use Rattle.appx_dbscan.specs.declared.Outcome.the-variants as Outcome
 use Rattle.appx_dbscan.specs.Transform.{Answer, transformOf, run, outcomeOf, labelsLeft, checkedCall}
 use Rattle.appx_dbscan.specs.Promise.{Chain, alone, step, CoreFrame, FarReach, into-listed, Border, Noise, Promise}
-use Rattle.appx_dbscan.specs.Cases.{params, minus}
+use Rattle.appx_dbscan.specs.Small.{params, minus, valid, frames, grid, differ, differ-at}
 
 -- ---- the stand-ins, as answers that a run might give
 module _ (g : Geometry) where
@@ -66,16 +66,6 @@ abbrev coresIn : Outcome → ℕ
 coresIn (Outcome.Labelled c m) = m
 coresIn (Outcome.Refused r) = 0
 
-differ : (a b : ℕ) → T (not (eqb a b)) → a ≡ b → ⊥
-differ a b n e = T-not (eqb a b) n (subst (λ (z : ℕ). T (eqb a z)) e (eqb-refl a))
-
--- a run of one channel: min_points, t, s and the frames
-abbrev valid : ℕ → ℕ → ℕ → ValidParams
-valid m t s = validOf (params 1 m (float t) (slackAt s))
-
-abbrev grid : ValidParams → List Frame → Geometry
-grid v fs = geometryOf short v fs
-
 core-frame : (g : Geometry) (p : ℕ) → T (ltb p (g .frames)) → T (core g p) → CoreFrame g p
 core-frame g p h c = record { inside = ltb→lt p (g .frames) h; is-core = c }
 
@@ -114,7 +104,7 @@ abbrev set-2 : ValidParams
 set-2 = valid 2 2 0
 
 abbrev pair : List Frame
-pair = (pos 1 ∷ []) ∷ (pos 2 ∷ []) ∷ []
+pair = frames (pos 1 ∷ pos 2 ∷ [])
 
 pub never-united-fails : Promise short set-2 pair (neverUnited (grid set-2 pair) .labels) (neverUnited (grid set-2 pair) .kinds) → ⊥
 unfolding neverUnited core listed geometryOf wholeTolerance
@@ -124,7 +114,7 @@ never-united-fails p =
 
 -- ---- all core frames in one cluster: two pairs far apart
 abbrev two-pairs : List Frame
-two-pairs = (pos 0 ∷ []) ∷ (pos 0 ∷ []) ∷ (pos 100 ∷ []) ∷ (pos 100 ∷ []) ∷ []
+two-pairs = frames (pos 0 ∷ pos 0 ∷ pos 100 ∷ pos 100 ∷ [])
 
 pub one-cluster-fails : Promise short set-2 two-pairs (oneCluster (grid set-2 two-pairs) .labels) (oneCluster (grid set-2 two-pairs) .kinds) → ⊥
 unfolding oneCluster core geometryOf wholeTolerance slackPower
@@ -137,7 +127,7 @@ abbrev set-h : ValidParams
 set-h = valid 3 2 0
 
 abbrev frames-h : List Frame
-frames-h = (minus 1 ∷ []) ∷ (pos 1 ∷ []) ∷ (pos 3 ∷ []) ∷ []
+frames-h = frames (minus 1 ∷ pos 1 ∷ pos 3 ∷ [])
 
 border-h : Border (grid set-h frames-h) 0
 unfolding core listed count geometryOf wholeTolerance slackPower appxTolerance
@@ -152,7 +142,7 @@ abbrev set-root : ValidParams
 set-root = valid 2 2 1
 
 abbrev frames-root : List Frame
-frames-root = (minus 1 ∷ []) ∷ (minus 1 ∷ []) ∷ (pos 3 ∷ []) ∷ []
+frames-root = frames (minus 1 ∷ minus 1 ∷ pos 3 ∷ [])
 
 noise-root : Noise (grid set-root frames-root) 2
 unfolding core count geometryOf wholeTolerance slackPower appxTolerance
@@ -161,6 +151,11 @@ noise-root = record { inside = lit< tt; not-core = tt; no-border = not-border (g
 pub root-only-fails : Promise short set-root frames-root (rootOnly (grid set-root frames-root) .labels) (rootOnly (grid set-root frames-root) .kinds) → ⊥
 unfolding rootOnly geometryOf wholeTolerance appxTolerance slackAt
 root-only-fails p = differ (getD (rootOnly (grid set-root frames-root) .labels) 2 0) none tt (p .others .unlabelled 2 (lit< tt) .1 noise-root)
+
+-- nor are these the labels of the definitions
+pub root-only-differs : rootOnly (grid set-root frames-root) .labels ≡ transformOf (grid set-root frames-root) .labels → ⊥
+unfolding rootOnly transformOf geometryOf wholeTolerance slackPower appxTolerance slackAt
+root-only-differs = differ-at 2 (rootOnly (grid set-root frames-root) .labels) (transformOf (grid set-root frames-root) .labels) tt
 
 -- ---- an invented cluster or core count: no constant fits both the frames 1, 2 (one cluster, two core frames) and the two pairs (two clusters, four core frames)
 pub constant-clusters-fail : (k : ℕ) → k ≡ transformOf (grid set-2 pair) .clusterCount → k ≡ transformOf (grid set-2 two-pairs) .clusterCount → ⊥
@@ -193,10 +188,14 @@ untouched-fails e = differ 0 7 tt (ap (λ (l : List ℕ). getD l 0 0) e)
 
 -- ---- the same labels or kinds for any frames: frame 0 is core among 5, 5 and noise among 5, 100
 abbrev twice-5 : List Frame
-twice-5 = (pos 5 ∷ []) ∷ (pos 5 ∷ []) ∷ []
+twice-5 = frames (pos 5 ∷ pos 5 ∷ [])
 
 abbrev once-5 : List Frame
-once-5 = (pos 5 ∷ []) ∷ (pos 100 ∷ []) ∷ []
+once-5 = frames (pos 5 ∷ pos 100 ∷ [])
+
+pub same-answer-fails : (labels : List ℕ) → labels ≡ transformOf (grid set-2 twice-5) .labels → labels ≡ transformOf (grid set-2 once-5) .labels → ⊥
+unfolding transformOf geometryOf wholeTolerance slackPower appxTolerance
+same-answer-fails labels e f = differ-at 0 (transformOf (grid set-2 twice-5) .labels) (transformOf (grid set-2 once-5) .labels) tt (sym e ∙ f)
 
 noise-once : Noise (grid set-2 once-5) 0
 unfolding core count geometryOf wholeTolerance slackPower appxTolerance

@@ -1,11 +1,11 @@
 // The clustering of frames: which are ordinary, and which are noise. `v` has the settings, `n` is the number of frames.
-use cells_grid::Word;
 use clustering::KINDS;
 use clustering::LABELS;
 use hyperparams::Checked;
 use hyperparams::Params;
 use hyperparams::Refusal;
 use hyperparams::ValidParams;
+use lists::Word;
 ghost use mathlib.Core.Path.{_≡_};
 ghost use Prim.Native.Nat.{_+_, _*_, _≤_};
 ghost use lib.Dec.{eqb};
@@ -111,13 +111,13 @@ fn run(
     ensures kinds { λ _. ⌜ now (kinds .exit) ≡ over (now (kinds .entry)) 0 (transformOf (geometryAt v n (now (points .entry))) .kinds) ⌝ }
     ensures work { λ _. ⌜ now (work .exit) ≡ over (now (work .entry)) 0 (replicate (workWords n (v .s)) 0) ⌝ }
 {
-    tree_structure::clear_words(work, SCRATCH * n, SCRATCH_WORDS * n);
+    lists::clear_words(work, SCRATCH * n, SCRATCH_WORDS * n);
     let clusters = fill_work(points, v, n, work);
     copy_labels(work, n, labels);
     copy_kinds(work, n, kinds);
     let core_frames = count_cores(work, n);
     let words = hyperparams::work_words(n, v.s);
-    tree_structure::clear_words(work, 0, words);
+    lists::clear_words(work, 0, words);
     Counts {
         clusters,
         core_frames,

@@ -10,7 +10,7 @@ ghost use Rattle.counting_tree.specs.Frames.{framesOf};
 ghost use Rattle.counting_tree.specs.Geometry.{short};
 ghost use Rattle.appx_dbscan.specs.Transform.{outcomeOf, labelsLeft, kindsLeft, workLeft, checkedCall};
 ghost use Rattle.appx_dbscan.specs.Promise.{Promise};
-ghost use Rattle.appx_dbscan.specs.Cases.{params};
+ghost use Rattle.appx_dbscan.specs.Small.{params};
 ghost use Rattle.appx_dbscan_c.specs.Told.{toldOf, neededOf};
 
 // `refusal` is 0 where the frames are labelled, else the number of the refusal, 1 to 9, and the counts are 0.

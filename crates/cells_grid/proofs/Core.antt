@@ -11,7 +11,7 @@ use borrow.Author.Tests.{le-leb, lt-leb}
 use Rattle.lists.specs.Lists.{numbers, howMany, total}
 use Rattle.lists.specs.Words.{column}
 use Rattle.lists.specs.OrderLaws.{kept-le}
-use Rattle.lists.specs.LoopLaws.{Fill}
+use Rattle.lists.specs.LoopLaws.{Sum, sum-start, Fill}
 use Rattle.hyperparams.specs.declared.ValidParams.{ValidParams}
 use Rattle.counting_tree.specs.Geometry.{Geometry}
 use Rattle.counting_tree.specs.Ready.{geometryAt, Ready, at-frames, at-least}
@@ -21,7 +21,6 @@ use Rattle.cells_grid.specs.Arrangement.{cellAt, coreBit, Arranged}
 use Rattle.cells_grid.specs.Places.{endIn}
 use Rattle.cells_grid.specs.Ready.{ready-lawful}
 use Rattle.cells_grid.specs.ArrangementLaws.{number-below, listed-number, members-number, neighbours-by-number, words-count, words-room, number-word, cell-size, arranged-over}
-use Rattle.cells_grid.proofs.Count.{Sum, sum-start}
 
 -- how many frames of cell c lie within t of frame i, if frame i's cell lists it
 abbrev pub inRange : Geometry → ℕ → ℕ → ℕ

@@ -3,18 +3,18 @@ use mathlib.Core.Path.{_≡_, sym, ap, ap₂, subst, _∙_}
 use mathlib.Core.Logic.{inl, inr}
 use mathlib.Core.Bool.{Bool, true, false, _&&_, cond}
 use mathlib.Core.List.{List, [], _∷_, _++_}
-use Prim.Native.Nat.{ℕ, zero, suc, _+_, _-_, _<_, _≤_}
+use Prim.Native.Nat.{ℕ, _+_, _-_, _<_, _≤_}
 use native.Mathlib.Omega.{arith}
-use native.Mathlib.Nat.{eq-or-lt-of-le, zero-add, add-zero}
+use native.Mathlib.Nat.{eq-or-lt-of-le, add-zero}
 use lib.IntN.{ℤ}
 use lib.Dec.{T, ltb, eqb, eqb→eq, eqb-refl}
 use lib.ListN.{length, getD, set, length-append, List·getD-append}
 use borrow.Author.Count.{below-more}
 use borrow.Author.Tests.{eq-eqb, ne-eqb}
 use Rattle.lists.specs.Lists.{from, numbers, keep, howMany}
-use Rattle.lists.specs.ListLaws.{true-T, T-true, both-ways, in-keep}
-use Rattle.lists.specs.CountLaws.{keep-append, keep-keep}
-use Rattle.lists.specs.OrderLaws.{many-snoc, kept-le, keep-low}
+use Rattle.lists.specs.ListLaws.{true-T, both-ways, in-keep}
+use Rattle.lists.specs.CountLaws.{keep-keep}
+use Rattle.lists.specs.OrderLaws.{many-snoc, kept-le, keep-low, kept-split, many-less}
 use Rattle.lists.specs.Words.{over}
 use Rattle.lists.specs.WordLaws.{over-length, over-nil, set-over}
 use Rattle.lists.specs.PartLaws.{part-at}
@@ -28,29 +28,6 @@ use Rattle.cells_grid.specs.Arrangement.{cellAt}
 use Rattle.cells_grid.specs.Places.{Begun}
 use Rattle.cells_grid.specs.Ready.{ready-lawful}
 use Rattle.cells_grid.specs.ArrangementLaws.{cell-at-below, number-at}
-
-from-add : (a m n : ℕ) → from a (m + n) ≡ from a m ++ from (a + m) n
-from-add a zero n = let e : a ≡ a + 0 = omega arith in ap₂ from e (zero-add n)
-from-add a (suc m) n =
-    let e : suc m + n ≡ suc (m + n) = omega arith in
-    let f : suc a + m ≡ a + suc m = omega arith in
-    ap (from a) e ∙ ap (λ (l : List ℕ). a ∷ l) (from-add (suc a) m n ∙ ap (λ (b : ℕ). from (suc a) m ++ from b n) f)
-
-kept-split : (f : ℕ → Bool) (i n : ℕ) → i ≤ n → keep f (numbers n) ≡ keep f (numbers i) ++ keep f (from i (n - i))
-kept-split f i n h =
-    let e : n ≡ i + (n - i) = omega arith in
-    ap (λ (m : ℕ). keep f (numbers m)) e ∙ ap (keep f) (from-add 0 i (n - i) ∙ ap (λ (a : ℕ). numbers i ++ from a (n - i)) (zero-add i)) ∙ keep-append f (numbers i) (from i (n - i))
-
--- a number that passes, below i: fewer pass below it
-many-less : (f : ℕ → Bool) (j i : ℕ) → j < i → T (f j) → howMany f (numbers j) < howMany f (numbers i)
-many-less f j i h t =
-    omega (
-      arith,
-      ap length (kept-split f (j + 1) i (omega arith)),
-      length-append (keep f (numbers (j + 1))) (keep f (from (j + 1) (i - (j + 1)))),
-      many-snoc f j,
-      ap (λ (b : Bool). cond {A = ℕ} b 1 0) (T-true (f j) t),
-    )
 
 module _ (g : Geometry) where
   -- the cells that begin before frame i are the first ones

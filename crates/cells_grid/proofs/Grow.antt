@@ -10,10 +10,10 @@ use lib.Dec.{ltb, eqb}
 use lib.ListN.{length, getD, set, length-append}
 use Rattle.lists.specs.Lists.{numbers, keep, howMany, concat}
 use Rattle.lists.specs.Words.{over, part, column}
-use Rattle.lists.specs.ListLaws.{keep-same, in-numbers, length-numbers}
+use Rattle.lists.specs.ListLaws.{keep-same, map-same, in-numbers, length-numbers}
 use Rattle.lists.specs.CountLaws.{concat-append}
 use Rattle.lists.specs.OrderLaws.{kept-snoc, kept-le}
-use Rattle.lists.specs.WordLaws.{over-length, over-nil, over-next, over-apart, set-over}
+use Rattle.lists.specs.WordLaws.{over-length, over-nil, over-grow, set-over}
 use Rattle.lists.specs.PartLaws.{part-same, column-snoc, get-under, holds-at-0}
 use Rattle.lists.specs.LoopLaws.{Gather}
 use Rattle.hyperparams.specs.Params.{maxFrames}
@@ -25,16 +25,7 @@ use Rattle.cells_grid.specs.Places.{Begun, numbered, startOf, placesOf, 
 use Rattle.cells_grid.specs.Lawful.{Lawful}
 use Rattle.cells_grid.specs.Arrangement.{arranged, startAt}
 use Rattle.cells_grid.specs.Ready.{ready-lawful}
-use Rattle.cells_grid.specs.ArrangementLaws.{map-same, cells-le, start-by-number, arranged-by-number, start-of-none, start-of-next, start-of-le}
-
--- words laid after those of two regions
-grow : (w : List ℕ) (a b i j : ℕ) (us vs xs ys : List ℕ) → i ≡ a + length us → j ≡ b + length vs → i + length xs ≤ b → j + length ys ≤ length w
-    → over (over (over (over w a us) b vs) i xs) j ys ≡ over (over w a (us ++ xs)) b (vs ++ ys)
-grow w a b i j us vs xs ys p q h k =
-    let l : length (over w a us) ≡ length w = over-length w a us (omega arith) in
-    let m : length (over w a (us ++ xs)) ≡ length w = over-length w a (us ++ xs) (omega (arith, length-append us xs)) in
-    ap (λ (z : List ℕ). over z j ys) (sym (over-apart (over w a us) i b xs vs h (omega arith)) ∙ ap (λ (z : List ℕ). over z b vs) (over-next w a i us xs p (omega arith)))
-    ∙ over-next (over w a (us ++ xs)) b j vs ys q (omega arith)
+use Rattle.cells_grid.specs.ArrangementLaws.{cells-le, start-by-number, arranged-by-number, start-of-none, start-of-next, start-of-le}
 
 -- ---- frames are inserted: those before i, in k cells
 pub record Inserted (g : Geometry) (n : ℕ) (w₀ w : List ℕ) (k i : ℕ) : Type 0 where
@@ -79,7 +70,7 @@ module _ {g : Geometry} {n : ℕ} {w₀ w : List ℕ} {k i : ℕ} (I : Inserted 
     count = p;
     work = q
         ∙ ap (λ (z : List ℕ). over (over z i (cellNumber g i ∷ [])) (n + k) ys) (I .work)
-        ∙ grow w₀ 0 n i (n + k) C K (cellNumber g i ∷ []) ys (omega (arith, lc)) (omega (arith, I .count)) (omega arith)
+        ∙ over-grow w₀ 0 n i (n + k) C K (cellNumber g i ∷ []) ys (omega (arith, lc)) (omega (arith, I .count)) (omega arith)
         (omega (arith, I .fit, I .count, kept-le (isCell g) (i + 1), ap length (kept-snoc (isCell g) i), length-append K ys))
         ∙ ap₂ (λ (us vs : List ℕ). over (over w₀ 0 us) n vs) (sym (column-snoc (cellNumber g) i)) (sym (kept-snoc (isCell g) i));
   }
@@ -202,7 +193,7 @@ module _ {n k : ℕ} {w₀ w : List ℕ} {start c : ℕ} (P : Placed n k w₀ w 
       begin = onward p;
       work = q
           ∙ ap₂ (λ (z ys : List ℕ). over z (3 * n + start) ys) (next ∙ ap (λ (z : List ℕ). over z (2 * n + c) (start ∷ [])) (P .work)) gathered
-          ∙ grow w₀ (2 * n) (3 * n) (2 * n + c) (3 * n + start) S F (start ∷ []) (numbered h n c) (omega (arith, ls)) (omega (arith, lf)) (omega (arith, P .few))
+          ∙ over-grow w₀ (2 * n) (3 * n) (2 * n + c) (3 * n + start) S F (start ∷ []) (numbered h n c) (omega (arith, ls)) (omega (arith, lf)) (omega (arith, P .few))
           (omega (arith, P .fit, P .begin, start-of-next h n c, start-of-le h n (c + 1)))
           ∙ ap₂ (λ (us vs : List ℕ). over (over w₀ (2 * n) us) (3 * n) vs)
           (ap (λ (s : ℕ). S ++ (s ∷ [])) (P .begin) ∙ sym (column-snoc (startOf h n) c)) (sym (places-of-next h n c));

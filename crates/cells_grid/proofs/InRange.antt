@@ -6,6 +6,7 @@ use native.Mathlib.Omega.{arith}
 use lib.IntN.{ℤ}
 use lib.ListN.{length, getD}
 use Rattle.lists.specs.Lists.{howMany}
+use Rattle.lists.specs.LoopLaws.{Scan, scan-start}
 use Rattle.hyperparams.specs.declared.ValidParams.{ValidParams}
 use Rattle.counting_tree.specs.Geometry.{Geometry}
 use Rattle.counting_tree.specs.Ready.{geometryAt, Ready, at-frames}
@@ -15,7 +16,6 @@ use Rattle.cells_grid.specs.Arrangement.{cellAt, Arranged}
 use Rattle.cells_grid.specs.Places.{endIn}
 use Rattle.cells_grid.specs.Ready.{ready-lawful}
 use Rattle.cells_grid.specs.ArrangementLaws.{words-count, words-room, cell-size, cell-end-le, cell-places, place-below}
-use Rattle.cells_grid.proofs.Count.{Scan, scan-start}
 
 module _ {ps : List ℤ} {v : ValidParams} {n k i c : ℕ} {w : List ℕ} (p : Ready ps v n × Arranged (geometryAt v n ps) k w × (i < n) × (c < k)) where
   abbrev g : Geometry

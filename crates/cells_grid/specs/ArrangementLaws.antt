@@ -1,74 +1,27 @@
 -- Laws of cell numbers and of the arrangement by cell: cells by number, lists by number, the places of a cell are its frames; and what words that hold them say.
 use mathlib.Core.Path.{_≡_, refl, sym, ap, ap₂, subst, _∙_}
 use mathlib.Core.Logic.{inl, inr}
-use mathlib.Core.Bool.{Bool, true, false, cond}
+use mathlib.Core.Bool.{Bool, cond}
 use mathlib.Core.List.{List, [], _∷_, _++_, map, map-append, map-map}
 use Prim.Native.Nat.{ℕ, zero, suc, _+_, _-_, _*_, _<_, _≤_}
 use native.Mathlib.Omega.{arith}
-use native.Mathlib.Nat.{not-suc-le-zero, le-of-suc-le-suc}
 use native.Mathlib.Numerals.{add-one}
-use lib.Dec.{T, T-not, ltb, eqb, ltb→lt, nltb→le, lt→ltb, eqb→eq, eqb-refl}
+use lib.Dec.{T-not, ltb, eqb, ltb→lt, nltb→le, lt→ltb, eqb→eq, eqb-refl}
 use lib.ListN.{length, take, drop, getD, length-take, length-drop}
-use lib.Seq.{take-suc, take-length, take-take, split-at, drop-at, take-at, ext-getD}
-use Rattle.lists.specs.Lists.{numbers, keep, lose, howMany, total, concat, In, Below, Ascending}
+use lib.Seq.{take-suc, take-length, split-at, drop-at, take-at, ext-getD}
+use Rattle.lists.specs.Lists.{numbers, keep, lose, howMany, total, concat, In, Below}
 use Rattle.lists.specs.Words.{over, part, column}
-use Rattle.lists.specs.ListLaws.{T-true, T-false, T-or-not, both-ways, bit-eqb, lose-in, keep-same, keep-more, at-in, in-map, in-concat, in-numbers, at-numbers, length-numbers, length-from}
-use Rattle.lists.specs.CountLaws.{keep-none, parts-length, howMany-cons, length-concat, concat-append}
-use Rattle.lists.specs.OrderLaws.{head-lowest, kept-le}
+use Rattle.lists.specs.ListLaws.{T-true, T-false, T-or-not, both-ways, bit-eqb, lose-in, keep-same, keep-more, at-in, in-map, map-same, in-some, in-concat, in-numbers, at-numbers, length-numbers, length-from}
+use Rattle.lists.specs.CountLaws.{keep-none, keep-all, keep-map, parts-length, howMany-cons, total-append, total-keep, total-map, length-concat, concat-append}
+use Rattle.lists.specs.OrderLaws.{at-rank, kept-le}
 use Rattle.lists.specs.WordLaws.{over-length}
-use Rattle.lists.specs.PartLaws.{part-length, part-add, part-under, part-same, part-at, part-below, holds-at, holds-at-0}
+use Rattle.lists.specs.PartLaws.{part-part, part-under, part-same, part-at, part-below, holds-at, holds-at-0}
 use Rattle.counting_tree.specs.Geometry.{Geometry}
 use Rattle.cells_grid.specs.Cells.{sameCell, members, first, isCell, cells, cellNumber, listed, list, neighbour, core}
 use Rattle.cells_grid.specs.Lawful.{Lawful}
 use Rattle.cells_grid.specs.CellLaws.{in-member, by-cells, members-same, first-in, cell-first, cells-ascending, first-cell, number-cell, number-same}
 use Rattle.cells_grid.specs.Arrangement.{cellAt, arranged, startAt, coreBit, Arranged, Cored}
 use Rattle.cells_grid.specs.Places.{numbered, startOf, placesOf, endIn, populated}
-
--- ---- lists
--- an element of an ascending list has as many lower ones as stand before it
-at-rank : (d : ℕ) (xs : List ℕ) (i : ℕ) → Ascending xs → i < length xs → howMany (λ c. ltb c (getD xs i d)) xs ≡ i
-at-rank d [] i a h = absurd (not-suc-le-zero h)
-at-rank d (x ∷ xs) zero a h = ap length (keep-none (λ c. ltb c x) (x ∷ xs) (λ z i t. omega (arith, head-lowest d (x ∷ xs) a z i, ltb→lt z x t)))
-at-rank d (x ∷ xs) (suc i) a h =
-    let y = getD xs i d in
-    let l : i < length xs = le-of-suc-le-suc h in
-    rw (T-true (ltb x y) (lt→ltb x y (a .0 y (at-in d xs i l)))) (ap suc (at-rank d xs i (a .1) l))
-
-total-append : {A : Type 0} (f : A → ℕ) (xs ys : List A) → total f (xs ++ ys) ≡ total f xs + total f ys
-total-append f [] ys = omega arith
-total-append f (x ∷ xs) ys = omega (arith, total-append f xs ys)
-
-total-map : {A B : Type 0} (f : B → ℕ) (h : A → B) (xs : List A) → total f (map h xs) ≡ total (λ x. f (h x)) xs
-total-map f h [] = refl
-total-map f h (x ∷ xs) = ap (λ (n : ℕ). f (h x) + n) (total-map f h xs)
-
-total-keep : {A : Type 0} (f : A → ℕ) (p : A → Bool) (xs : List A) → total f (keep p xs) ≡ total (λ x. cond (p x) (f x) 0) xs
-total-keep f p [] = refl
-total-keep {A} f p (x ∷ xs) = go (p x) (total-keep f p xs)
-  where
-    go : (b : Bool) {n : ℕ} → total f (keep p xs) ≡ n → total f (cond b (x ∷ keep p xs) (keep p xs)) ≡ cond b (f x) 0 + n
-    go true e = ap (λ (n : ℕ). f x + n) e
-    go false e = omega arith
-
-pub map-same : {A B : Type 0} (f h : A → B) (xs : List A) → ((x : A) → In x xs → f x ≡ h x) → map f xs ≡ map h xs
-map-same f h [] e = refl
-map-same f h (x ∷ xs) e = ap₂ _∷_ (e x (inl refl)) (map-same f h xs (λ y i. e y (inr i)))
-
-keep-map : {A B : Type 0} (f : B → Bool) (h : A → B) (xs : List A) → keep f (map h xs) ≡ map h (keep (λ x. f (h x)) xs)
-keep-map f h [] = refl
-keep-map {A} {B} f h (x ∷ xs) = go (f (h x)) (keep-map f h xs)
-  where
-    go : (b : Bool) {l : List B} → l ≡ map h (keep (λ y. f (h y)) xs) → cond b (h x ∷ l) l ≡ map h (cond b (x ∷ keep (λ y. f (h y)) xs) (keep (λ y. f (h y)) xs))
-    go true e = ap (λ (r : List B). h x ∷ r) e
-    go false e = e
-
-keep-all : {A : Type 0} (f : A → Bool) (xs : List A) → ((x : A) → In x xs → T (f x)) → keep f xs ≡ xs
-keep-all f [] h = refl
-keep-all f (x ∷ xs) h = rw (T-true (f x) (h x (inl refl)), keep-all f xs (λ y i. h y (inr i)))
-
-in-some : {A : Type 0} (x : A) (xs : List A) → In x xs → 0 < length xs
-in-some x [] i = absurd i
-in-some x (y ∷ ys) i = omega arith
 
 -- ---- frames by cell number
 lower-or-same : (y c : ℕ) → _≡_ {A = ℕ} (cond (ltb y (c + 1)) 1 0) (cond (ltb y c) 1 0 + cond (eqb y c) 1 0)
@@ -263,13 +216,6 @@ module _ (g : Geometry) (L : Lawful g) where
       in-member g (y .0) x (rw (y .2) at (z .2)) .0
 
 -- ---- what words that hold an arrangement say
-part-part : {A : Type 0} (xs : List A) (a n b m : ℕ) → b + m ≤ n → a + n ≤ length xs → part (part xs a n) b m ≡ part xs (a + b) m
-part-part {A} xs a n b m h k =
-    let e : n ≡ b + (n - b) = omega arith in
-    ap (λ (z : List A). part z b m) (ap (part xs a) e ∙ part-add xs a b (n - b))
-    ∙ ap (take m) (drop-at (part xs a b) (part xs (a + b) (n - b)) b (part-length xs a b (omega arith)))
-    ∙ take-take m (n - b) (drop (a + b) xs) (omega arith)
-
 module _ (g : Geometry) (L : Lawful g) {k : ℕ} {w : List ℕ} (A : Arranged g k w) (n : ℕ) (e : g .frames ≡ n) where
   laid : part w (3 * n) n ≡ arranged g
   laid = subst (λ m. part w (3 * m) m ≡ arranged g) e (A .places)
@@ -314,7 +260,7 @@ module _ (g : Geometry) (L : Lawful g) {k : ℕ} {w : List ℕ} (A : Arranged g 
         let s : start ≡ startAt g c = p ∙ start-word c h in
         let m : end - start ≡ length (members g (cellAt g c)) = omega (arith, cell-size) in
         ap (part w (3 * n + start)) m
-        ∙ sym (part-part w (3 * n) n start (length (members g (cellAt g c))) (omega (arith, cell-size, cell-end-le)) (omega (arith, words-room)))
+        ∙ sym (part-part w (3 * n) n start (length (members g (cellAt g c))) (omega (arith, cell-size, cell-end-le)))
         ∙ ap₂ (λ (z : List ℕ) (a : ℕ). part z a (length (members g (cellAt g c)))) laid s
         ∙ places g c low
 

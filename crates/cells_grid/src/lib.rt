@@ -2,6 +2,7 @@
 // `v` has the settings, `n` is the number of frames, `k` the number of cells. A cell has a number; frame i's is at i,
 // and each of the other regions has one word a frame too.
 use hyperparams::ValidParams;
+use lists::Word;
 ghost use mathlib.Core.Path.{_≡_};
 ghost use mathlib.Core.Bool.{cond};
 ghost use mathlib.Core.List.{[], _∷_};
@@ -16,9 +17,6 @@ ghost use Rattle.cells_grid.specs.Cells.{members, isCell, cells, cellNum
 ghost use Rattle.cells_grid.specs.Arrangement.{cellAt, coreBit, Arranged};
 ghost use Rattle.cells_grid.specs.Places.{Begun, numbered, startOf, placesOf, numberIn, endIn, populated};
 
-// A number of the work memory.
-pub type Word = u16;
-
 // The regions: from n on the first frame of each cell, from 2n on where its frames begin among the places,
 // from 3n on the places, which hold the frames by cell, from 4n on which frames are core.
 pub const STARTS: usize = 2;
@@ -26,20 +24,6 @@ pub const STARTS: usize = 2;
 pub const PLACES: usize = 3;
 
 pub const CORES: usize = 4;
-
-fn wide(x: Word) -> usize
-    ensures { λ r. ⌜ r ≡ x ⌝ }
-{
-    x as usize
-}
-
-// The word at `at`.
-pub fn word(work: &[Word], at: usize) -> usize
-    requires { ⌜ at < length (now work) ⌝ }
-    ensures { λ r. ⌜ r ≡ getD (now (work .entry)) at 0 ⌝ }
-{
-    wide(work[at])
-}
 
 // The number of frame i's cell, where k cells begin before frame i: k itself if frame i begins a cell.
 fn find_cell(points: &[i16], v: ValidParams, n: usize, work: &[Word], k: usize, i: usize) -> usize
@@ -49,7 +33,7 @@ fn find_cell(points: &[i16], v: ValidParams, n: usize, work: &[Word], k: usize, 
 {
     let mut c = 0;
     while c < k {
-        let f = word(work, n + c);
+        let f = lists::word(work, n + c);
         if counting_tree::points::same_box(points, v, n, 0, i, f) {
             return c;
         }
@@ -108,7 +92,7 @@ fn gather_cell(work: &mut [Word], n: usize, c: usize, at: usize) -> usize
     let mut i = 0;
     while i < n {
         let next = i + 1;
-        if word(work, i) == c {
+        if lists::word(work, i) == c {
             work[at + m] = i as Word;
             m += 1;
             i = next;
@@ -154,7 +138,7 @@ pub fn cell_end(work: &[Word], n: usize, k: usize, c: usize) -> usize
 {
     let next = c + 1;
     if next < k {
-        return word(work, STARTS * n + next);
+        return lists::word(work, STARTS * n + next);
     }
     n
 }
@@ -172,7 +156,13 @@ pub fn is_listed(
     requires { ⌜ (c < length (cells (geometryAt v n (now points)))) × (d < length (cells (geometryAt v n (now points)))) ⌝ }
     ensures { λ r. ⌜ r ≡ listed (geometryAt v n (now (points .entry))) (cellAt (geometryAt v n (now (points .entry))) c) (cellAt (geometryAt v n (now (points .entry))) d) ⌝ }
 {
-    counting_tree::points::near_cells(points, v, n, word(work, n + c), word(work, n + d))
+    counting_tree::points::near_cells(
+        points,
+        v,
+        n,
+        lists::word(work, n + c),
+        lists::word(work, n + d),
+    )
 }
 
 // How many frames of cell c lie within the tolerance of frame i.
@@ -190,10 +180,10 @@ pub fn points_in_range(
 {
     let end = cell_end(work, n, k, c);
     let mut m = 0;
-    let mut p = word(work, STARTS * n + c);
+    let mut p = lists::word(work, STARTS * n + c);
     while p < end {
         let next = p + 1;
-        let j = word(work, PLACES * n + p);
+        let j = lists::word(work, PLACES * n + p);
         if counting_tree::points::within(points, v, n, i, j) {
             m += 1;
             p = next;
@@ -209,7 +199,7 @@ fn crowded(points: &[i16], v: ValidParams, n: usize, work: &[Word], k: usize, i:
     requires { ⌜ Ready (now points) v n × Arranged (geometryAt v n (now points)) k (now work) × (i < n) ⌝ }
     ensures { λ r. ⌜ r ≡ leb (geometryAt v n (now (points .entry)) .least) (howMany (neighbour (geometryAt v n (now (points .entry))) i) (numbers n)) ⌝ }
 {
-    let own = word(work, i);
+    let own = lists::word(work, i);
     let mut m = 0;
     let mut c = 0;
     while c < k {
@@ -233,8 +223,8 @@ fn core_frame(points: &[i16], v: ValidParams, n: usize, work: &[Word], k: usize,
     requires { ⌜ Ready (now points) v n × Arranged (geometryAt v n (now points)) k (now work) × (i < n) ⌝ }
     ensures { λ r. ⌜ r ≡ coreBit (geometryAt v n (now (points .entry))) i ⌝ }
 {
-    let c = word(work, i);
-    let size = cell_end(work, n, k, c) - word(work, STARTS * n + c);
+    let c = lists::word(work, i);
+    let size = cell_end(work, n, k, c) - lists::word(work, STARTS * n + c);
     if size >= v.min_points {
         return 1;
     }
@@ -262,5 +252,5 @@ pub fn is_core(work: &[Word], n: usize, i: usize) -> bool
     requires { ⌜ (i < n) × (5 * n ≤ length (now work)) ⌝ }
     ensures { λ r. ⌜ r ≡ eqb (getD (now (work .entry)) (4 * n + i) 0) 1 ⌝ }
 {
-    word(work, CORES * n + i) == 1
+    lists::word(work, CORES * n + i) == 1
 }

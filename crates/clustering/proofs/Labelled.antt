@@ -11,7 +11,7 @@ use lib.ListN.{length, getD}
 use Rattle.lists.specs.Lists.{numbers, keep, headOr, In, nonzero}
 use Rattle.lists.specs.Words.{part, column}
 use Rattle.lists.specs.ListLaws.{true-T, T-false, T-or-not, cond-true, and-right, in-keep, in-numbers, keep-same}
-use Rattle.lists.specs.CountLaws.{keep-keep}
+use Rattle.lists.specs.CountLaws.{keep-keep, keep-map}
 use Rattle.lists.specs.PartLaws.{holds-at}
 use Rattle.hyperparams.specs.declared.ValidParams.{ValidParams}
 use Rattle.counting_tree.specs.Geometry.{Geometry}
@@ -25,7 +25,6 @@ use Rattle.core_cells.specs.Forest.{Grown}
 use Rattle.core_cells.specs.ForestLaws.{no-tree-node}
 use Rattle.clustering.specs.Clusters.{place, clusters, touched, labelBy, kindOf}
 use Rattle.clustering.specs.ClusterLaws.{core-label, border-label, noise-label}
-use Rattle.clustering.specs.UnitingLaws.{keep-map}
 use Rattle.clustering.specs.Numbering.{clusterWord, bordersAt}
 use Rattle.clustering.proofs.Held.{lawful, frames, cell-count, own-held, own-below, core-held}
 

@@ -8,13 +8,12 @@ use lib.ListN.{length}
 use borrow.Rule.Slice.PartMut.{putMid}
 use Rattle.lists.specs.Lists.{numbers}
 use Rattle.lists.specs.Words.{over, part, column}
-use Rattle.lists.specs.ListLaws.{in-numbers, length-numbers}
+use Rattle.lists.specs.ListLaws.{map-same, in-numbers, length-numbers}
 use Rattle.lists.specs.WordLaws.{over-again, over-length}
 use Rattle.lists.specs.PartLaws.{part-same}
 use Rattle.hyperparams.specs.declared.ValidParams.{ValidParams}
 use Rattle.counting_tree.specs.Geometry.{Geometry}
 use Rattle.counting_tree.specs.Ready.{geometryAt, Ready}
-use Rattle.cells_grid.specs.ArrangementLaws.{map-same}
 use Rattle.core_cells.specs.Forest.{Grown}
 use Rattle.core_cells.specs.ForestLaws.{grown-over}
 use Rattle.partitions.specs.Leaders.{Falling, root}

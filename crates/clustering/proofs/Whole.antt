@@ -9,7 +9,7 @@ use lib.IntN.{ℤ}
 use lib.ListN.{length}
 use Rattle.lists.specs.Lists.{numbers, howMany}
 use Rattle.lists.specs.Words.{over, part, column}
-use Rattle.lists.specs.ListLaws.{in-numbers, length-numbers}
+use Rattle.lists.specs.ListLaws.{map-same, in-numbers, length-numbers}
 use Rattle.lists.specs.WordLaws.{over-length}
 use Rattle.lists.specs.PartLaws.{part-same, holds-at}
 use Rattle.hyperparams.specs.Params.{maxFrames}
@@ -18,7 +18,6 @@ use Rattle.counting_tree.specs.Geometry.{Geometry}
 use Rattle.counting_tree.specs.Ready.{geometryAt, Ready}
 use Rattle.cells_grid.specs.Cells.{coreCell}
 use Rattle.cells_grid.specs.Arrangement.{cellAt}
-use Rattle.cells_grid.specs.ArrangementLaws.{map-same}
 use Rattle.core_cells.specs.Forest.{Grown}
 use Rattle.core_cells.specs.ForestLaws.{grown-over}
 use Rattle.clustering.specs.Clusters.{place, clusters, labelBy, kindOf}

@@ -4,8 +4,8 @@ use crate::KINDS;
 use crate::LABELS;
 use crate::LEADERS;
 use crate::NONE;
-use cells_grid::Word;
 use hyperparams::ValidParams;
+use lists::Word;
 ghost use mathlib.Core.Path.{_≡_};
 ghost use Prim.Native.Nat.{_*_, _<_, _≤_};
 ghost use lib.ListN.{length};
@@ -36,7 +36,7 @@ pub fn number_clusters(work: &mut [Word], n: usize, k: usize) -> usize
         let next = c + 1;
         let at = CLUSTERS * n + c;
         if core_cells::has_tree(work, n, c) {
-            let lowest = cells_grid::word(work, LEADERS * n + c);
+            let lowest = lists::word(work, LEADERS * n + c);
             if lowest == c {
                 work[at] = m as Word;
                 m += 1;
@@ -80,7 +80,7 @@ fn border_cell(points: &[i16], v: ValidParams, n: usize, k: usize, work: &[Word]
     ensures cell { λ r. ⌜ (let g = geometryAt v n (now (points .entry)) in r ≡ headOr k (keep (bordersAt g (cellNumber g i) i) (numbers k))) ⌝ }
     ensures low { λ r. ⌜ r ≤ k ⌝ }
 {
-    let own = cells_grid::word(work, i);
+    let own = lists::word(work, i);
     let mut b = 0;
     while b < k {
         if borders(points, v, n, k, work, i, own, b) {
@@ -106,7 +106,7 @@ pub fn label_frame(
     ensures kind { λ r. ⌜ r .kind ≡ kindOf (geometryAt v n (now (points .entry))) i ⌝ }
 {
     if cells_grid::is_core(work, n, i) {
-        let own = cells_grid::word(work, i);
+        let own = lists::word(work, i);
         let at = CLUSTERS * n + own;
         return FrameLabel {
             label: work[at],

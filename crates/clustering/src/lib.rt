@@ -1,7 +1,7 @@
 // Sets of linked core cells, and the labels of frames, in words of one lent slice.
 // `v` has the settings, `n` is the number of frames, `k` the number of cells.
-use cells_grid::Word;
 use hyperparams::ValidParams;
+use lists::Word;
 ghost use mathlib.Core.Path.{_≡_};
 ghost use Prim.Native.Nat.{_*_, _≤_};
 ghost use lib.ListN.{length};

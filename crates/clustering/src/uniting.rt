@@ -2,8 +2,8 @@
 use crate::LEADERS;
 use cells_grid::PLACES;
 use cells_grid::STARTS;
-use cells_grid::Word;
 use hyperparams::ValidParams;
+use lists::Word;
 ghost use mathlib.Core.Path.{_≡_};
 ghost use Prim.Native.Nat.{_+_, _*_, _<_, _≤_};
 ghost use lib.ListN.{length};
@@ -43,10 +43,10 @@ pub fn touches_cell(
     ensures { λ r. ⌜ (let g = geometryAt v n (now (points .entry)) in r ≡ touches g (cellAt g c) (cellAt g d)) ⌝ }
 {
     let end = cells_grid::cell_end(work, n, k, c);
-    let mut p = cells_grid::word(work, STARTS * n + c);
+    let mut p = lists::word(work, STARTS * n + c);
     while p < end {
         let next = p + 1;
-        let i = cells_grid::word(work, PLACES * n + p);
+        let i = lists::word(work, PLACES * n + p);
         if cells_grid::is_core(work, n, i) {
             let t = core_cells::tree_count(points, v, n, k, work, i, d);
             if t.count != 0 {

@@ -3,19 +3,19 @@ use mathlib.Core.Path.{_≡_, refl, sym, ap, subst, _∙_}
 use mathlib.Core.Logic.{inl, inr}
 use mathlib.Core.Bool.{Bool, true, false, cond}
 use mathlib.Core.List.{List, [], _∷_, _++_, append-nil, append-assoc}
-use Prim.Native.Nat.{ℕ, zero, suc, _+_, _-_, _*_, _<_, _≤_, zero-le}
+use Prim.Native.Nat.{ℕ, zero, suc, _+_, _*_, _<_, _≤_, zero-le}
 use native.Mathlib.Omega.{arith}
 use native.Mathlib.Nat.{le-trans, mul-le-mul, mul-le-mul-right}
 use native.Mathlib.Numerals.{add-one}
 use lib.Dec.{T-not, ltb, ltb→lt, nltb→le}
 use lib.ListN.{length, take, drop, getD, length-append, length-take, length-drop}
-use lib.Seq.{take-take, drop-drop, drop-at, take-at}
+use lib.Seq.{drop-at, take-at}
 use Rattle.lists.specs.Lists.{Below, nonzero}
 use Rattle.lists.specs.Words.{over, part, column}
 use Rattle.lists.specs.ListLaws.{true-T, nonzero-true, T-true, T-false, T-or-not, length-numbers}
 use Rattle.lists.specs.CountLaws.{keep-le}
 use Rattle.lists.specs.WordLaws.{over-length}
-use Rattle.lists.specs.PartLaws.{slice-part, part-under, part-above, part-same, holds-at}
+use Rattle.lists.specs.PartLaws.{part-part, part-under, part-above, part-same, holds-at}
 use Rattle.hyperparams.specs.Params.{maxFrames}
 use Rattle.counting_tree.specs.declared.IntersectionType.{IntersectionType}
 use Rattle.counting_tree.specs.declared.IntersectionType.the-variants.{Disjoint, FullyCovered, Intersecting}
@@ -29,10 +29,6 @@ use Rattle.cells_grid.specs.ArrangementLaws.{start-next, start-le, cells-le, co
 use Rattle.tree_structure.specs.Encode.{size, encode, TreeAt, encode-length, size-le}
 use Rattle.tree_structure.specs.Work.{maxLevels, maxNodes}
 use Rattle.core_cells.specs.Forest.{treeFrames, hasTree, treeSize, treeWords, nodesTo, forestTo, treeWord, Grown}
-
--- ---- a part of a part
-part-part : {A : Type 0} (xs : List A) (a n b m : ℕ) → b + m ≤ n → part (part xs a n) b m ≡ part xs (a + b) m
-part-part xs a n b m h = ap (take m) (slice-part (drop a xs) b n) ∙ take-take m (n - b) (drop b (drop a xs)) (omega arith) ∙ ap (take m) (drop-drop b a xs)
 
 -- ---- no frames, no count
 byBox-nil : (v : IntersectionType) → byBox v [] [] ≡ []

@@ -3,8 +3,8 @@
 use cells_grid::PLACES;
 use cells_grid::STARTS;
 use hyperparams::ValidParams;
+use lists::Word;
 use tree_structure::Counted;
-use tree_structure::Word;
 ghost use mathlib.Core.Path.{_≡_};
 ghost use mathlib.Core.List.{[], _∷_};
 ghost use Prim.Native.Nat.{_+_, _*_, _<_, _≤_};
@@ -40,7 +40,7 @@ fn gather_core(work: &mut [Word], n: usize, from: usize, to: usize, at: usize) -
     let mut p = from;
     while p < to {
         let next = p + 1;
-        let i = cells_grid::word(work, PLACES * n + p);
+        let i = lists::word(work, PLACES * n + p);
         if cells_grid::is_core(work, n, i) {
             work[at + m] = i as Word;
             m += 1;
@@ -68,7 +68,7 @@ fn build_tree(
     ensures { λ r. ⌜ r ≡ at + 4 * treeSize (geometryAt v n (now (points .entry))) c ⌝ }
     ensures { λ _. ⌜ (let g = geometryAt v n (now (points .entry)) in now (work .exit) ≡ over (over (now (work .entry)) (5 * n + c) (treeWord g c ∷ [])) at (treeWords g c)) ⌝ }
 {
-    let from = cells_grid::word(work, STARTS * n + c);
+    let from = lists::word(work, STARTS * n + c);
     let to = cells_grid::cell_end(work, n, k, c);
     let lo = GATHERED * n;
     let m = gather_core(work, n, from, to, lo);
@@ -81,7 +81,7 @@ fn build_tree(
     let copy = COPY * n;
     let scratch = SCRATCH * n;
     let next = tree_structure::build_structure(points, v, n, work, lo, hi, copy, scratch, at);
-    tree_structure::clear_words(work, lo, m);
+    lists::clear_words(work, lo, m);
     work[slot] = (1 + (at - NODES * n) / 4) as Word;
     next
 }
@@ -106,7 +106,7 @@ pub fn has_tree(work: &[Word], n: usize, c: usize) -> bool
     requires { ⌜ 5 * n + c < length (now work) ⌝ }
     ensures { λ r. ⌜ r ≡ nonzero (getD (now (work .entry)) (5 * n + c) 0) ⌝ }
 {
-    cells_grid::word(work, TREES * n + c) != 0
+    lists::word(work, TREES * n + c) != 0
 }
 
 // The count of frame q in the tree of cell c; 0 where it has none.
@@ -122,7 +122,7 @@ pub fn tree_count(
     requires { ⌜ Ready (now points) v n × Grown (geometryAt v n (now points)) k (now work) × (q < n) × (c < k) ⌝ }
     ensures { λ r. ⌜ (let g = geometryAt v n (now (points .entry)) in r ≡ toldOf (node g q (cellAt g c))) ⌝ }
 {
-    let t = cells_grid::word(work, TREES * n + c);
+    let t = lists::word(work, TREES * n + c);
     if t == 0 {
         return Counted { count: 0, first: 0 };
     }

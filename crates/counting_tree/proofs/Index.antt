@@ -2,7 +2,7 @@
 use mathlib.Core.Path.{_≡_, refl, sym, ap, subst, _∙_}
 use mathlib.Core.Bool.{Bool, true, false, _&&_}
 use Prim.Native.Nat.{ℕ, _+_, _*_, _^_, _≤_, _<_}
-use native.Mathlib.Nat.{le-trans, lt-of-le-of-lt, lt-of-mul-lt-mul-right, le-of-mul-le-mul-right, mul-le-mul-right, mul-le-mul-left, mul-pos}
+use native.Mathlib.Nat.{le-trans, lt-of-le-of-lt, lt-of-mul-lt-mul-right, le-of-mul-le-mul-right, mul-le-mul-right, mul-le-mul-left, mul-pos, add-comm}
 use native.Mathlib.Omega.{arith}
 use lib.Dec.{T, lit<, lit≤}
 use lib.IntN.{ℤ, pos, negsuc, natAbs, _+ℤ_}
@@ -22,7 +22,7 @@ use Rattle.ieee754.proofs.Ceil.{ceil-small, in-float}
 use Rattle.hyperparams.specs.Params.{float}
 use Rattle.counting_tree.specs.Grid.{index, indexAt, half}
 use Rattle.counting_tree.specs.Radius.{Side}
-use Rattle.counting_tree.specs.InBox.{coordinate-is, side-half, half-side, indexBy, index-by}
+use Rattle.counting_tree.specs.InBox.{side-pos, coordinate-is, side-half, half-side, indexBy, index-by}
 
 zero-is : float 0 ≡ ofBits binary64 0
 unfolding ofInt ofBits
@@ -36,10 +36,7 @@ small-of (inf s) g h = absurd g
 small-of (fin s m e) g h = lt-of-mul-lt-mul-right unit (go (m * up e) (mag (fin s m e)) (down e) unit g h unit-pos (down-pos e))
   where
     go : (N M D u : ℕ) → N * u ≡ M * D → M ≤ 2 ^ 33 * u → 0 < u → 0 < D → N * u < 1099511627776 * D * u
-    go N M D u e h U P =
-        let a : M * D ≤ 2 ^ 33 * u * D = mul-le-mul-right D h in
-        let b : 0 < D * u = mul-pos P U in
-        omega arith
+    go N M D u e h U P = omega (arith, mul-le-mul-right D h, mul-pos P U)
 
 mag-from : (z : Float) (A B T : ℕ) → (plus z + B ≤ A + minus z + T) × (A + minus z ≤ plus z + B + T) → mag z ≤ A + B + T
 mag-from z A B T h = go (sign z) refl
@@ -50,22 +47,16 @@ mag-from z A B T h = go (sign z) refl
 
 quotient-small : (z side : Float) → Good z → Side side → mag z ≤ 2 ^ 18 * unit → Small (div binary64 z side)
 quotient-small z side g s h =
-    let P : 0 < mag side = side-pos (mag side) unit unit-pos (s .low) in
+    let P = side-pos side s in
     let q = div-near z side g (s .good) P (reach (mag z) (mag side) unit h (s .low)) in
     let t = close-twice (mag (div binary64 z side)) (mag z * unit) (mag side) (q .close) in
     small-of (div binary64 z side) (q .good) (le-trans (le-of-mul-le-mul-right {k = mag side} (under (mag (div binary64 z side)) (mag z) (mag side) unit t h (s .low)) P) (last unit unit-pos))
   where
-    side-pos : (S u : ℕ) → 0 < u → u ≤ 2 ^ 13 * S → 0 < S
-    side-pos S u p l = omega arith
-
     reach : (Z S u : ℕ) → Z ≤ 2 ^ 18 * u → u ≤ 2 ^ 13 * S → Z ≤ 2 ^ 100 * S
     reach Z S u a b = omega arith
 
     under : (Q Z S u : ℕ) → Q * S ≤ 2 * (Z * u) + S → Z ≤ 2 ^ 18 * u → u ≤ 2 ^ 13 * S → Q * S ≤ (2 ^ 32 * u + 1) * S
-    under Q Z S u t a b =
-        let x : Z * u ≤ 2 ^ 18 * u * u = mul-le-mul-right u a in
-        let y : u * u ≤ u * (2 ^ 13 * S) = mul-le-mul-left u b in
-        omega arith
+    under Q Z S u t a b = omega (arith, mul-le-mul-right u a, mul-le-mul-left u b)
 
     last : (u : ℕ) → 0 < u → 2 ^ 32 * u + 1 ≤ 2 ^ 33 * u
     last u p = omega arith
@@ -105,14 +96,11 @@ module _ (side h x : Float) (c : ℤ) (half-is : h ≡ half side) (e : x ≡ ofI
 
     pub above-small : Small (div binary64 (sub binary64 x h) side)
     above-small =
-        let k : mag h ≡ minus h + plus h = swap (mag h) (plus h) (minus h) (mag-parts h) in
+        let k : mag h ≡ minus h + plus h = mag-parts h ∙ add-comm (plus h) (minus h) in
         let w = bound (plus x) (minus x) (minus h) (plus h) (mag x) (mag h) unit (mag-parts x) k (x-is .1) h-small in
         let n = sub-near x h (2 ^ 17 * unit) (x-is .0) (h-is .good) (mul-le-mul-right unit (lit≤ tt)) (w .0) (w .1) in
         let m = mag-from (sub binary64 x h) (plus x + minus h) (minus x + plus h) unit (approx-abs (sub binary64 x h) (plus x + minus h) (minus x + plus h) (2 ^ 17 * unit + 2 ^ 52) unit room n) in
         quotient-small (sub binary64 x h) side (n .good) s (total (plus x) (minus x) (minus h) (plus h) (mag x) (mag h) unit (mag (sub binary64 x h)) (mag-parts x) k (x-is .1) h-small m)
-      where
-        swap : (m a b : ℕ) → m ≡ a + b → m ≡ b + a
-        swap m a b e = omega arith
 
     pub below-small : Small (div binary64 (add binary64 x h) side)
     below-small =

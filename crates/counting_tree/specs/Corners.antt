@@ -3,13 +3,14 @@ use mathlib.Core.Path.{_≡_, sym, _∙_, subst}
 use mathlib.Core.Logic.{_⊎_, inl, inr}
 use mathlib.Core.Bool.{Bool, true, false, not, cond}
 use mathlib.Core.List.{List, [], _∷_}
-use Prim.Native.Nat.{ℕ, _+_, _-_, _*_, _^_, _≤_, _<_}
+use Prim.Native.Nat.{ℕ, _+_, _*_, _^_, _≤_, _<_}
 use native.Mathlib.Nat.{lt-of-le-of-lt, mul-le-mul-right, le-of-lt}
-use native.Mathlib.Omega.{arith}
+use native.Mathlib.Omega.{arith, by-contra}
 use lib.Dec.{T, ltb, ltb→lt, lt→ltb, nltb→le, lit≤}
 use lib.ListN.{length}
 use lib.Ieee.{Float, binary64, add, sub, lt}
-use Rattle.ieee754.specs.Norm.{squares, Tri, none, more, triangle, sq-mono, lt-or-ge}
+use Rattle.ring.specs.Nat.{sq-mono}
+use Rattle.ring.specs.InnerProduct.{squares, Tri, none, more, triangle}
 use Rattle.ieee754.specs.Value.{unit, tiny, unit-tiny, tiny-large, mag, sign, Good, Is}
 use Rattle.ieee754.specs.Ops.{plus, minus, plus-pos, minus-pos, mag-parts, add-near, sub-near}
 use Rattle.ieee754.specs.Compare.{lt-is}
@@ -253,10 +254,8 @@ corners-right H e ext i h g s b {qs} {xs} {cs} a l t =
     let P : 1 ≤ tiny = omega (arith, tiny-large) in
     let c : plus (distance qs k) + minus ext < plus ext + minus (distance qs k) = ltb→lt (plus (distance qs k) + minus ext) (plus ext + minus (distance qs k)) (subst T (lt-is (distance qs k) ext (dg .0) g) (nearer qs k ext (corners cs e) g l (all-near H e i h a) (r .member) t)) in
     let zl : z < mag ext = below (plus (distance qs k)) (minus (distance qs k)) (plus ext) (minus ext) z (mag ext) (plus-pos (distance qs k) (dg .1)) (minus-pos (distance qs k) (dg .1)) (plus-pos ext s) (minus-pos ext s) c in
-    let w : squares (gaps qs k) ≤ (z + 512 * tiny + 1) * (z + 512 * tiny + 1) = elim (lt-or-ge ((z + 512 * tiny + 1) * (z + 512 * tiny + 1)) (squares (gaps qs k))) [
-      | inl f ↦ absurd (more-than (z + 512 * tiny) (dist-low (r .near) l (z + 512 * tiny + 1) (bounds z (mag ext) unit tiny unit-tiny b P zl) (le-of-lt f)))
-      | inr f ↦ f
-    ] in
+    let w = by-contra (squares (gaps qs k)) ((z + 512 * tiny + 1) * (z + 512 * tiny + 1)) (λ f.
+    more-than (z + 512 * tiny) (dist-low (r .near) l (z + 512 * tiny + 1) (bounds z (mag ext) unit tiny unit-tiny b P zl) (le-of-lt f))) in
     lt-of-le-of-lt (triangle (z + 512 * tiny + 1) (2 * (9 * tiny)) (r .beyond) w (same-short (9 * tiny) qs l))
     (lt-of-le-of-lt (sq-mono (total z (mag ext) tiny P zl)) (reach-sum (mag ext) unit tiny unit-tiny P b))
   where

@@ -1,21 +1,26 @@
 -- The float distance against the exact one, both by squares: its error is a fixed small amount, not a part of the distance.
-use mathlib.Core.Path.{_≡_, refl, sym, ap, _∙_, subst}
+use mathlib.Core.Path.{_≡_, sym, ap, _∙_, subst}
 use mathlib.Core.Logic.{_⊎_, inl, inr}
 use mathlib.Core.Bool.{Bool, true, false}
 use mathlib.Core.List.{List, [], _∷_}
-use Prim.Native.Nat.{ℕ, suc, _+_, _-_, _*_, _^_, _≤_, _<_}
-use native.Mathlib.Nat.{one-mul, le-trans, le-of-eq, mul-le-mul, mul-le-mul-right, mul-assoc, add-mul, mul-add, add-le-add, add-zero, zero-add, add-suc, suc-add, add-assoc, le-add-right, mul-one, le-of-lt, le-of-mul-le-mul-right, zero-mul}
-use native.Mathlib.Omega.{arith}
-use lib.Dec.{T, lit≤}
+use Prim.Native.Nat.{ℕ, suc, _+_, _-_, _*_, _^_, _≤_, _<_, zero-le}
+use native.Mathlib.Nat.{le-trans, le-of-eq, mul-le-mul-right, mul-pos, mul-assoc, add-mul, suc-mul, add-le-add, add-zero, zero-add, add-suc, suc-add, add-assoc, le-add-right, mul-one, le-of-lt, le-of-mul-le-mul-left, le-of-mul-le-mul-right, zero-mul}
+use native.Mathlib.Omega.{arith, by-contra}
+use lib.IntN.{pos}
+use lib.Dec.{T, lit<, lit≤}
 use lib.ListN.{length}
-use lib.Ieee.{Float, binary64, round, add, sub, mul, unlike}
-use Rattle.ieee754.specs.Norm.{squares, Tri, none, more, triangle, sq-le-back, lt-or-ge}
+use lib.Ieee.{Float, binary64, round, add, sub, mul}
+use Rattle.ring.specs.Ring.{ringℕ, poly, done}
+use Rattle.ring.specs.Order.{belowℕ, equalℕ, num, slackℕ, _⊞_, _⊠_, nil, diffℕ, _⊙_}
+use Rattle.ring.specs.Nat.{sq-le-back, lt-or-ge}
+use Rattle.ring.specs.InnerProduct.{squares, Tri, none, more, triangle}
 use Rattle.ieee754.specs.Value.{unit, unit-pos, tiny, unit-tiny, tiny-large, mag, sign, Good, Close, close-twice}
 use Rattle.ieee754.specs.Ops.{plus, minus, SumOf, above, below, near-units, add-pos, sub-of, mul-near}
 use Rattle.ieee754.specs.Root.{root}
 use Rattle.ieee754.specs.RootLaw.{root-near}
 use Rattle.ieee754.specs.Exact.{ofInt-pos}
 use Rattle.ieee754.specs.Abs.{close-abs}
+use Rattle.ieee754.specs.Whole.{like}
 use Rattle.hyperparams.specs.Params.{float}
 use Rattle.counting_tree.specs.Box.{sumFrom, distance}
 
@@ -30,7 +35,7 @@ weak Y E u c = omega arith
 
 -- W = X + Y
 twice : (c X Q E Y u : ℕ) → c ≤ 2 ^ 10 → 2 ^ 52 * X ≤ 2 ^ 52 * Q + 4 * (c * Q) + 2 ^ 52 * (2 * (c * u)) → 2 ^ 52 * Y ≤ 2 ^ 52 * E + E + 2 ^ 52 * u → X + Y ≤ 2 * (Q + E) + (2 * (c * u) + u)
-twice c X Q E Y u b h k = let p : c * Q ≤ 2 ^ 10 * Q = mul-le-mul-right Q b in omega arith
+twice c X Q E Y u b h k = omega (arith, mul-le-mul-right Q b)
 
 -- Z = W rounded
 sum-high : (W Z Q E v u : ℕ) → 2 ^ 53 * Z ≤ 2 ^ 53 * W + W + 2 ^ 52 * u → W ≤ 2 * (Q + E) + v → v ≤ 2 ^ 50 * u → 2 ^ 52 * Z ≤ 2 ^ 52 * W + (Q + E) + 2 ^ 52 * u
@@ -43,24 +48,13 @@ step-high c X Y W Z Q E u w h k s = omega arith
 step-low : (c X Y W Z Q E u : ℕ) → W ≡ X + Y → 2 ^ 52 * Q ≤ 2 ^ 52 * X + 4 * (c * Q) + 2 ^ 52 * (2 * (c * u)) → 2 ^ 52 * E ≤ 2 ^ 52 * Y + E + 2 ^ 52 * u
     → 2 ^ 52 * W ≤ 2 ^ 52 * Z + (Q + E) + 2 ^ 52 * u → 2 ^ 52 * (Q + E) ≤ 2 ^ 52 * Z + 4 * (suc c * (Q + E)) + 2 ^ 52 * (2 * (suc c * u))
 step-low c X Y W Z Q E u w h k s =
-    le-trans (le-of-eq (mul-add (2 ^ 52) Q E))
-    (le-trans (go (2 ^ 52 * X) (2 ^ 52 * Y) (2 ^ 52 * Z) (2 ^ 52 * Q) (2 ^ 52 * E) (c * Q) (2 ^ 52 * (2 * (c * u))) (2 ^ 52 * u) h k (le-trans (le-of-eq (sym (ap (λ (n : ℕ). 2 ^ 52 * n) w ∙ mul-add (2 ^ 52) X Y))) s))
-    (shape (2 ^ 52 * Z) (c * Q) (c * u)))
-  where
-    go : (x y z q e r v o : ℕ) → q ≤ x + 4 * r + v → e ≤ y + E + o → x + y ≤ z + (Q + E) + o → q + e ≤ z + 4 * r + v + 2 * o + (Q + 2 * E)
-    go x y z q e r v o a b d = omega arith
-
-    shape : (z r v : ℕ) → z + 4 * (c * Q) + 2 ^ 52 * (2 * (c * u)) + 2 * (2 ^ 52 * u) + (Q + 2 * E) ≤ z + 4 * (suc c * (Q + E)) + 2 ^ 52 * (2 * (suc c * u))
-    shape z r v = omega arith
+    belowℕ (c ∷ X ∷ Y ∷ W ∷ Z ∷ Q ∷ E ∷ u ∷ []) (slackℕ h ⊞ slackℕ k ⊞ slackℕ s ⊞ nil (pos (2 ^ 52) ⊙ diffℕ w) ⊞ num (4 * (c * E) + 3 * Q + 2 * E)) (search poly depth 30) done
 
 small-c : (c u : ℕ) → c ≤ 2 ^ 10 → 2 * (c * u) + u ≤ 2 ^ 50 * u
-small-c c u b = let p : c * u ≤ 2 ^ 10 * u = mul-le-mul-right u b in omega arith
+small-c c u b = omega (arith, mul-le-mul-right u b)
 
 times : (Z W u : ℕ) → Close Z W 1 → (2 ^ 53 * (Z * u) ≤ 2 ^ 53 * (W * u) + W * u + 2 ^ 52 * u) × (2 ^ 53 * (W * u) ≤ 2 ^ 53 * (Z * u) + W * u + 2 ^ 52 * u)
-times Z W u c =
-    let p : 2 ^ 53 * (Z * 1) * u ≤ (2 ^ 53 * W + W + 2 ^ 52 * 1) * u = mul-le-mul-right u (c .0) in
-    let q : 2 ^ 53 * W * u ≤ (2 ^ 53 * (Z * 1) + W + 2 ^ 52 * 1) * u = mul-le-mul-right u (c .1) in
-    omega arith
+times Z W u c = omega (arith, mul-le-mul-right u (c .0), mul-le-mul-right u (c .1))
 
 pub sums-step : (c A m s Q E u : ℕ) → c ≤ 2 ^ 10 → Sums c (A * u) Q u → Close m E u → Close s (A + m) 1 → Sums (suc c) (s * u) (Q + E) u
 sums-step c A m s Q E u b h k j =
@@ -82,13 +76,7 @@ abbrev difference : ℕ → ℕ → ℕ
 difference a b = (a - b) + (b - a)
 
 difference-is : (a b : ℕ) → (a ≡ b + difference a b) ⊎ (b ≡ a + difference a b)
-difference-is a b = elim (lt-or-ge a b) [ inl h ↦ inr (right a b h) | inr h ↦ inl (left a b h) ]
-  where
-    right : (a b : ℕ) → a < b → b ≡ a + ((a - b) + (b - a))
-    right a b h = omega arith
-
-    left : (a b : ℕ) → b ≤ a → a ≡ b + ((a - b) + (b - a))
-    left a b h = omega arith
+difference-is a b = elim (lt-or-ge a b) [ inl h ↦ inr (omega arith) | inr h ↦ inl (omega arith) ]
 
 unfoldable pub gap : Float → Float → ℕ
 gap x y = difference (plus x + minus y) (minus x + plus y)
@@ -97,30 +85,20 @@ pub gap-is : (x y : Float) → (plus x + minus y ≡ minus x + plus y + gap x y)
 unfolding gap
 gap-is x y = difference-is (plus x + minus y) (minus x + plus y)
 
-pub sub-gap : (x y : Float) → Good x → Good y → gap x y ≤ 2 ^ 100 * unit → Good (sub binary64 x y) × Close (mag (sub binary64 x y)) (gap x y) 1
-sub-gap x y g k b = go (sub-of x y g k) (gap-is x y)
+-- the difference is the gap, rounded
+pub sub-is : (x y : Float) → Good x → Good y → (s : Bool) × (sub binary64 x y ≡ round binary64 s (gap x y) unit)
+unfolding gap
+sub-is x y g k = go (sub-of x y g k)
   where
-    Out : Float → ℕ → Type 0
-    Out z n = Good z × Close (mag z) n 1
+    go : SumOf (sub binary64 x y) (plus x + minus y) (minus x + plus y) → (s : Bool) × (sub binary64 x y ≡ round binary64 s (gap x y) unit)
+    go (above n e d) = (false, e ∙ ap (λ (m : ℕ). round binary64 false m unit) (omega arith))
+    go (below n e d) = (true, e ∙ ap (λ (m : ℕ). round binary64 true m unit) (omega arith))
 
-    same : (A B n m : ℕ) → A ≡ B + n → (A ≡ B + m) ⊎ (B ≡ A + m) → m ≡ n
-    same A B n m h (inl e) = omega arith
-    same A B n m h (inr e) = omega arith
-
-    flip : (A B m : ℕ) → (A ≡ B + m) ⊎ (B ≡ A + m) → (B ≡ A + m) ⊎ (A ≡ B + m)
-    flip A B m (inl e) = inr e
-    flip A B m (inr e) = inl e
-
-    go : SumOf (sub binary64 x y) (plus x + minus y) (minus x + plus y) → (plus x + minus y ≡ minus x + plus y + gap x y) ⊎ (minus x + plus y ≡ plus x + minus y + gap x y)
-        → Good (sub binary64 x y) × Close (mag (sub binary64 x y)) (gap x y) 1
-    go (above n e d) i =
-        let q = same (plus x + minus y) (minus x + plus y) n (gap x y) d i in
-        let r = near-units false n (subst (λ (w : ℕ). w ≤ 2 ^ 100 * unit) q b) in
-        subst (λ (z : Float). Out z (gap x y)) (sym e) (subst (λ (w : ℕ). Out (round binary64 false n unit) w) (sym q) (r .good, r .close))
-    go (below n e d) i =
-        let q = same (minus x + plus y) (plus x + minus y) n (gap x y) d (flip (plus x + minus y) (minus x + plus y) (gap x y) i) in
-        let r = near-units true n (subst (λ (w : ℕ). w ≤ 2 ^ 100 * unit) q b) in
-        subst (λ (z : Float). Out z (gap x y)) (sym e) (subst (λ (w : ℕ). Out (round binary64 true n unit) w) (sym q) (r .good, r .close))
+pub sub-gap : (x y : Float) → Good x → Good y → gap x y ≤ 2 ^ 100 * unit → Good (sub binary64 x y) × Close (mag (sub binary64 x y)) (gap x y) 1
+sub-gap x y g k b =
+    let d = sub-is x y g k in
+    let r = near-units (d .0) (gap x y) b in
+    subst (λ (z : Float). Good z × Close (mag z) (gap x y) 1) (sym (d .1)) (r .good, r .close)
 
 abbrev pub gaps : List Float → List Float → List ℕ
 gaps [] ps = []
@@ -148,26 +126,14 @@ diff-le : (e g u : ℕ) → 0 < u → g ≤ 2 ^ 18 * u → Close e g 1 → e ≤
 diff-le e g u U b c = omega arith
 
 square-le : (e u : ℕ) → e ≤ 2 ^ 20 * u → e * e ≤ 2 ^ 40 * (u * u)
-square-le e u h = le-trans (mul-le-mul h h) (le-of-eq (shape u))
-  where
-    shape : (u : ℕ) → 2 ^ 20 * u * (2 ^ 20 * u) ≡ 2 ^ 40 * (u * u)
-    shape u = omega arith
+square-le e u h = belowℕ (e ∷ u ∷ []) (slackℕ h ⊠ num (2 ^ 20 * u + e)) (search poly depth 30) done
 
 -- what is summed so far stays far below an overflow
 acc-le : (c A Q u : ℕ) → 0 < u → c ≤ 2 ^ 10 → Q ≤ c * (2 ^ 40 * (u * u)) → 2 ^ 52 * (A * u) ≤ 2 ^ 52 * Q + 4 * (c * Q) + 2 ^ 52 * (2 * (c * u)) → A ≤ 2 ^ 52 * u
-acc-le c A Q u U b f h =
-    let p : c * Q ≤ 2 ^ 10 * Q = mul-le-mul-right Q b in
-    let q : c * u ≤ 2 ^ 10 * u = mul-le-mul-right u b in
-    let r : Q ≤ 2 ^ 10 * (2 ^ 40 * (u * u)) = le-trans f (mul-le-mul-right (2 ^ 40 * (u * u)) b) in
-    let o : 1 * u ≤ u * u = mul-le-mul-right u U in
-    let s : A * u ≤ 2 * Q + 2 ^ 12 * u = half (A * u) Q (c * Q) (c * u) u h p q in
-    le-of-mul-le-mul-right {k = u} (le-trans (last (A * u) Q u (u * u) s r (le-trans (le-of-eq (sym (one-mul u))) o)) (le-of-eq (sym (mul-assoc (2 ^ 52) u u)))) U
-  where
-    last : (x Q u o : ℕ) → x ≤ 2 * Q + 2 ^ 12 * u → Q ≤ 2 ^ 10 * (2 ^ 40 * o) → u ≤ o → x ≤ 2 ^ 52 * o
-    last x Q u o a b d = omega arith
-
-    half : (x Q r v u : ℕ) → 2 ^ 52 * x ≤ 2 ^ 52 * Q + 4 * r + 2 ^ 52 * (2 * v) → r ≤ 2 ^ 10 * Q → v ≤ 2 ^ 10 * u → x ≤ 2 * Q + 2 ^ 12 * u
-    half x Q r v u h p q = omega arith
+acc-le c A Q u U b f h = le-of-mul-le-mul-left {k = 2 ^ 52 * u}
+    (belowℕ (c ∷ A ∷ Q ∷ u ∷ [])
+    (slackℕ h ⊞ num (4 * Q + 2 ^ 53 * u + (2 ^ 52 + 2 ^ 12) * 2 ^ 40 * (u * u)) ⊠ slackℕ b ⊞ num (2 ^ 52 + 2 ^ 12) ⊠ slackℕ f ⊞ num (2 ^ 63 * u) ⊠ slackℕ U
+    ⊞ num ((2 ^ 104 - 2 ^ 102 - 2 ^ 63 - 2 ^ 62) * (u * u))) (search poly depth 30) done) (mul-pos (lit< tt) U)
 
 -- a sum of two values that are not negative
 sum-close : (x y : Float) → Good x → Good y → sign x ≡ false → sign y ≡ false → mag x + mag y ≤ 2 ^ 100 * unit
@@ -188,29 +154,17 @@ one-more c a q p Q b h g k w =
     let s : sign m ≡ false = M .sign-is ∙ like (sign d) in
     let A-le = acc-le c (mag a) Q unit unit-pos b (h .few) (h .sums .high) in
     let m-le : mag m ≤ 2 ^ 42 * unit = square-mag (mag m) (mag d * mag d) unit unit-pos E-le (M .close) in
-    let S = sum-close a m (h .good) (M .good) (h .sign-is) s (le-trans (add-le-add A-le m-le) (last unit)) in
+    let S = sum-close a m (h .good) (M .good) (h .sign-is) s (le-trans (add-le-add A-le m-le) (belowℕ (unit ∷ []) (num ((2 ^ 100 - 2 ^ 52 - 2 ^ 42) * unit)) (search poly depth 30) done)) in
     record {
       good = S .0;
       sign-is = S .1;
       sums = sums-step c (mag a) (mag m) (mag (add binary64 a m)) Q (mag d * mag d) unit b (h .sums) (M .close) (S .2);
-      few = le-trans (add-le-add (h .few) E-le) (le-of-eq (next c (2 ^ 40 * (unit * unit))));
+      few = le-trans (add-le-add (h .few) E-le) (le-of-eq (sym (suc-mul c (2 ^ 40 * (unit * unit)))));
     }
   where
-    next : (c k : ℕ) → c * k + k ≡ suc c * k
-    next c k = omega arith
-
-    last : (u : ℕ) → 2 ^ 52 * u + 2 ^ 42 * u ≤ 2 ^ 100 * u
-    last u = omega arith
-
-    like : (s : Bool) → unlike s s ≡ false
-    like true = refl
-    like false = refl
-
     square-mag : (m E u : ℕ) → 0 < u → E ≤ 2 ^ 40 * (u * u) → Close m E u → m ≤ 2 ^ 42 * u
-    square-mag m E u U b c = le-of-mul-le-mul-right {k = u} (le-trans (end (m * u) E u (u * u) (close-twice m E u c) b (le-trans (le-of-eq (sym (one-mul u))) (mul-le-mul-right u U))) (le-of-eq (sym (mul-assoc (2 ^ 42) u u)))) U
-      where
-        end : (x E u o : ℕ) → x ≤ 2 * E + u → E ≤ 2 ^ 40 * o → u ≤ o → x ≤ 2 ^ 42 * o
-        end x E u o a b c = omega arith
+    square-mag m E u U b c = le-of-mul-le-mul-right {k = u}
+        (belowℕ (m ∷ E ∷ u ∷ []) (slackℕ (close-twice m E u c) ⊞ num 2 ⊠ slackℕ b ⊞ num u ⊠ slackℕ U ⊞ num ((2 ^ 41 - 1) * (u * u))) (search poly depth 30) done) U
 
 pub sum-list : (c : ℕ) (a : Float) (Q : ℕ) {qs ps : List Float} → Near qs ps → c + length qs ≤ 2 ^ 10 → Summed c a Q → Summed (c + length qs) (sumFrom a qs ps) (Q + squares (diffs qs ps))
 unfolding sumFrom
@@ -230,18 +184,9 @@ start =
     record {
       good = z .good;
       sign-is = z .sign-is;
-      sums = record { high = at-zero (mag (float 0)) unit (z .mag-is); low = nothing (mag (float 0) * unit) unit };
+      sums = record { high = le-of-eq (equalℕ (mag (float 0) ∷ unit ∷ []) (pos (2 ^ 52 * unit) ⊙ diffℕ (z .mag-is)) (search poly depth 30) done); low = zero-le };
       few = le-of-eq (sym (zero-mul (2 ^ 40 * (unit * unit))));
     }
-  where
-    at-zero : (m u : ℕ) → m ≡ 0 * u → 2 ^ 52 * (m * u) ≤ 2 ^ 52 * 0 + 4 * (0 * 0) + 2 ^ 52 * (2 * (0 * u))
-    at-zero m u e = le-of-eq (ap (λ (x : ℕ). 2 ^ 52 * (x * u)) e ∙ shape u)
-      where
-        shape : (u : ℕ) → 2 ^ 52 * (0 * u * u) ≡ 2 ^ 52 * 0 + 4 * (0 * 0) + 2 ^ 52 * (2 * (0 * u))
-        shape u = omega arith
-
-    nothing : (x u : ℕ) → 2 ^ 52 * 0 ≤ 2 ^ 52 * x + 4 * (0 * 0) + 2 ^ 52 * (2 * (0 * u))
-    nothing x u = omega arith
 
 -- the whole sum, of at most four channels
 pub record Total (a : Float) (Q : ℕ) : Type 0 where
@@ -259,10 +204,7 @@ total {qs} {ps} n l =
     (subst (λ (x : ℕ). Summed (0 + length qs) (sumFrom (float 0) qs ps) x) (zero-add (squares (diffs qs ps))) s))
   where
     relax : (c x y Q u : ℕ) → c ≤ 4 → 2 ^ 52 * x ≤ 2 ^ 52 * y + 4 * (c * Q) + 2 ^ 52 * (2 * (c * u)) → 2 ^ 52 * x ≤ 2 ^ 52 * y + 16 * Q + 2 ^ 55 * u
-    relax c x y Q u b h =
-        let p : c * Q ≤ 4 * Q = mul-le-mul-right Q b in
-        let q : c * u ≤ 4 * u = mul-le-mul-right u b in
-        omega arith
+    relax c x y Q u b h = omega (arith, mul-le-mul-right Q b, mul-le-mul-right u b)
 
     at : (a : Float) (c Q : ℕ) → c ≤ 4 → Summed c a Q → Total a Q
     at a c Q b h = record {
@@ -274,34 +216,17 @@ total {qs} {ps} n l =
     }
 
 -- ---- from squares to lengths; t = 2 ^ -36
-room : (u t : ℕ) → u ≡ 2 ^ 36 * t → 2 ^ 60 ≤ t → 16 * u ≤ t * t
-room u t e l = let p : 2 ^ 60 * t ≤ t * t = mul-le-mul-right t l in omega arith
-
-cut : (x y e : ℕ) → 2 ^ 52 * x ≤ 2 ^ 52 * y + 2 ^ 52 * e → x ≤ y + e
-cut x y e h = omega arith
-
-high-sum : (X Q k tk w u : ℕ) → 2 ^ 52 * X ≤ 2 ^ 52 * Q + 16 * Q + 2 ^ 55 * u → Q ≤ k → k ≤ 2 ^ 56 * tk → 16 * u ≤ w → 2 ^ 52 * X ≤ 2 ^ 52 * Q + 2 ^ 52 * (256 * tk + w)
-high-sum X Q k tk w u h a b c = omega arith
-
-crude : (X Q w u : ℕ) → 2 ^ 52 * Q ≤ 2 ^ 52 * X + 16 * Q + 2 ^ 55 * u → 16 * u ≤ w → Q ≤ 2 * X + w
-crude X Q w u h c = omega arith
-
-low-sum : (X Q k tk w u : ℕ) → 2 ^ 52 * Q ≤ 2 ^ 52 * X + 16 * Q + 2 ^ 55 * u → Q ≤ 2 * X + w → X ≤ k → k ≤ 2 ^ 56 * tk → 16 * u ≤ w → 2 ^ 52 * Q ≤ 2 ^ 52 * X + 2 ^ 52 * (512 * tk + w)
-low-sum X Q k tk w u h d a b c = omega arith
-
-grow : (X Q K t n : ℕ) → X ≤ Q + (2 * n * (t * K) + t * t) → Q ≤ K * K → 1 ≤ n → X ≤ (K + n * t) * (K + n * t)
-grow X Q K t n h q p = let r : 1 * 1 * (t * t) ≤ n * n * (t * t) = mul-le-mul-right (t * t) (mul-le-mul p p) in omega arith
-
 long-high : (Q K X u t : ℕ) → u ≡ 2 ^ 36 * t → 2 ^ 60 ≤ t → K ≤ 2 ^ 56 * t → Q ≤ K * K → 2 ^ 52 * X ≤ 2 ^ 52 * Q + 16 * Q + 2 ^ 55 * u → X ≤ (K + 128 * t) * (K + 128 * t)
-long-high Q K X u t e l b q h =
-    let k : K * K ≤ 2 ^ 56 * (t * K) = le-trans (mul-le-mul-right K b) (le-of-eq (mul-assoc (2 ^ 56) t K)) in
-    grow X Q K t 128 (cut X Q (256 * (t * K) + t * t) (high-sum X Q (K * K) (t * K) (t * t) u h q k (room u t e l))) q (lit≤ tt)
+long-high Q K X u t e l b q h = le-of-mul-le-mul-left {k = 2 ^ 52}
+    (belowℕ (Q ∷ K ∷ X ∷ u ∷ t ∷ [])
+    (slackℕ h ⊞ num (2 ^ 52 + 16) ⊠ slackℕ q ⊞ num (16 * K) ⊠ slackℕ b ⊞ num (2 ^ 66 * t) ⊠ slackℕ l ⊞ num ((2 ^ 126 - 2 ^ 91) * t) ⊞ nil (pos (2 ^ 55) ⊙ diffℕ (sym e)))
+    (search poly depth 30) done) (lit< tt)
 
 long-low : (Q K X u t : ℕ) → u ≡ 2 ^ 36 * t → 2 ^ 60 ≤ t → K ≤ 2 ^ 56 * t → X ≤ K * K → 2 ^ 52 * Q ≤ 2 ^ 52 * X + 16 * Q + 2 ^ 55 * u → Q ≤ (K + 256 * t) * (K + 256 * t)
-long-low Q K X u t e l b q h =
-    let k : K * K ≤ 2 ^ 56 * (t * K) = le-trans (mul-le-mul-right K b) (le-of-eq (mul-assoc (2 ^ 56) t K)) in
-    let r = room u t e l in
-    grow Q X K t 256 (cut Q X (512 * (t * K) + t * t) (low-sum X Q (K * K) (t * K) (t * t) u h (crude X Q (t * t) u h r) q k r)) q (lit≤ tt)
+long-low Q K X u t e l b q h = le-of-mul-le-mul-left {k = 2 ^ 52 - 16}
+    (belowℕ (Q ∷ K ∷ X ∷ u ∷ t ∷ [])
+    (slackℕ h ⊞ num (2 ^ 52) ⊠ slackℕ q ⊞ num (16 * K) ⊠ slackℕ b ⊞ num ((2 ^ 68 - 2 ^ 20) * t) ⊠ slackℕ l
+    ⊞ num ((2 ^ 60 - 2 ^ 13) * (t * K) + ((2 ^ 68 - 2 ^ 20) * 2 ^ 60 - 2 ^ 91) * t) ⊞ nil (pos (2 ^ 55) ⊙ diffℕ (sym e))) (search poly depth 30) done) (lit< tt)
 
 -- ---- rounded differences against gaps: each within 3 t, so the lengths within 6 t
 abbrev pub same : ℕ → List Float → List ℕ
@@ -329,16 +254,10 @@ tri-diffs (one {q} {p} {qs} {ps} g k w n) =
 
 pub same-squares : (n : ℕ) (qs : List Float) → squares (same n qs) ≡ length qs * (n * n)
 same-squares n [] = sym (zero-mul (n * n))
-same-squares n (q ∷ qs) = ap (λ (x : ℕ). n * n + x) (same-squares n qs) ∙ shape (length qs) (n * n)
-  where
-    shape : (l m : ℕ) → m + l * m ≡ suc l * m
-    shape l m = omega arith
+same-squares n (q ∷ qs) = ap (λ (x : ℕ). n * n + x) (same-squares n qs) ∙ ringℕ (length qs ∷ n ∷ []) (search poly depth 30) done
 
 pub same-short : (n : ℕ) (qs : List Float) → length qs ≤ 4 → squares (same n qs) ≤ 2 * n * (2 * n)
-same-short n qs h = le-trans (le-of-eq (same-squares n qs)) (le-trans (mul-le-mul-right (n * n) h) (le-of-eq (shape n)))
-  where
-    shape : (n : ℕ) → 4 * (n * n) ≡ 2 * n * (2 * n)
-    shape n = omega arith
+same-short n qs h = le-trans (le-of-eq (same-squares n qs)) (le-trans (mul-le-mul-right (n * n) h) (le-of-eq (ringℕ (n ∷ []) (search poly depth 30) done)))
 
 -- ---- the distance
 root-up : (z K t : ℕ) → 2 ^ 60 ≤ t → K ≤ 2 ^ 57 * t → 2 ^ 50 * z ≤ 2 ^ 50 * K + K + 2 ^ 50 → z ≤ K + 129 * t
@@ -369,7 +288,7 @@ dist-high {qs} {ps} n l K b h =
 
 pub dist-low : {qs ps : List Float} → Near qs ps → length qs ≤ 4 → (K : ℕ) → K ≤ 2 ^ 55 * tiny → K * K ≤ squares (gaps qs ps) → K ≤ mag (distance qs ps) + 512 * tiny
 unfolding distance
-dist-low {qs} {ps} n l K b h = elim (lt-or-ge (mag (root s) + 512 * tiny) K) [ inl g ↦ absurd (bad g) | inr g ↦ g ]
+dist-low {qs} {ps} n l K b h = by-contra K (mag (root s) + 512 * tiny) bad
   where
     s : Float
     s = sumFrom (float 0) qs ps
@@ -391,10 +310,8 @@ dist-low {qs} {ps} n l K b h = elim (lt-or-ge (mag (root s) + 512 * tiny) K) [ i
         let z = mag (root s) in
         let y = z-le z K tiny g b in
         let r = root-near s (T .good) (T .sign-is) (le-trans (T .small) (mul-le-mul-right unit (lit≤ tt))) in
-        let x : mag s * unit ≤ (z + 34 * tiny) * (z + 34 * tiny) = elim (lt-or-ge ((z + 34 * tiny) * (z + 34 * tiny)) (mag s * unit)) [
-          | inl f ↦ absurd (too-far z tiny (omega (arith, tiny-large)) (root-down z (z + 34 * tiny) tiny tiny-large (y .0) (r .low (z + 34 * tiny) (le-of-lt f))))
-          | inr f ↦ f
-        ] in
+        let x = by-contra (mag s * unit) ((z + 34 * tiny) * (z + 34 * tiny)) (λ f.
+        too-far z tiny (omega (arith, tiny-large)) (root-down z (z + 34 * tiny) tiny tiny-large (y .0) (r .low (z + 34 * tiny) (le-of-lt f)))) in
         let q = long-low (squares (diffs qs ps)) (z + 34 * tiny) (mag s * unit) unit tiny unit-tiny tiny-large (y .1) x (T .low) in
         let w : squares (gaps qs ps) ≤ (z + 34 * tiny + 256 * tiny + 2 * (3 * tiny)) * (z + 34 * tiny + 256 * tiny + 2 * (3 * tiny)) = triangle (z + 34 * tiny + 256 * tiny) (2 * (3 * tiny)) (tri-diffs n .1) q (same-short (3 * tiny) qs l) in
         end z K tiny g (sq-le-back K (z + 34 * tiny + 256 * tiny + 2 * (3 * tiny)) (le-trans h w))

@@ -2,13 +2,16 @@
 use mathlib.Core.Path.{_≡_, refl, sym, ap, _∙_, subst}
 use mathlib.Core.Logic.{_⊎_, inl, inr}
 use mathlib.Core.Bool.{Bool, true, false, not, _&&_, true≢false}
+use mathlib.Core.List.{[], _∷_}
 use Prim.Native.Nat.{ℕ, zero, suc, _+_, _-_, _*_, _/_, _^_, _≤_, _<_}
-use native.Mathlib.Nat.{one-mul, le-trans, le-of-eq, lt-of-le-of-lt, mul-le-mul, mul-le-mul-left, mul-le-mul-right, mul-assoc, le-of-mul-le-mul-right, div-mul-le-self, lt-div-mul-add, zero-add, add-zero, zero-mul, suc-mul, le-of-lt}
+use native.Mathlib.Nat.{le-trans, le-of-eq, lt-of-le-of-lt, mul-le-mul, mul-le-mul-right, mul-pos, add-assoc, le-of-mul-le-mul-right, lt-of-mul-lt-mul-right, div-mul-le-self, lt-div-mul-add, zero-add, add-zero, zero-mul, le-of-lt}
 use native.Mathlib.Omega.{arith}
 use lib.IntN.{ℤ, pos, negsuc, negℤ, _+ℤ_, natAbs}
 use lib.Dec.{T, ltb, leb→le, le→leb, ltb→lt, lt→ltb, nltb→le, nleb→lt, lit≤}
 use lib.Ieee.{Float, nan, inf, fin, binary64, up, down, add, sub, mul, div, neg, lt, le, ofInt, unlike, round}
 use lib.Ieee.Fits.{down-pos, and-l, and-r}
+use Rattle.ring.specs.Ring.{poly, done}
+use Rattle.ring.specs.Order.{belowℕ, num, slackℕ, _⊞_, _⊠_, nil, diffℕ}
 use Rattle.ieee754.specs.Value.{unit, unit-pos, tiny, unit-tiny, tiny-large, mag, sign, Good, Is, Close, close-twice, Rounded}
 use Rattle.ieee754.specs.Ops.{plus, minus, plus-pos, minus-pos, plus-neg, minus-neg, neg-good, neg-parts, near-units, mul-near, div-near, sub-pos, add-neg}
 use Rattle.ieee754.specs.Compare.{lt-is, le-is}
@@ -43,10 +46,10 @@ ceil-pos (fin false m e) g s =
     (i, refl, le-of-mul-le-mul-right {k = c} (one a c i unit (mag (fin false m e)) g (u .0)) (down-pos e), le-of-mul-le-mul-right {k = c} (other a c i unit (mag (fin false m e)) g (u .1)) (down-pos e))
   where
     one : (a c i u M : ℕ) → a * u ≡ M * c → a ≤ i * c → M * c ≤ i * u * c
-    one a c i u M g h = let p : a * u ≤ i * c * u = mul-le-mul-right u h in omega arith
+    one a c i u M g h = omega (arith, mul-le-mul-right u h)
 
     other : (a c i u M : ℕ) → a * u ≡ M * c → i * c ≤ a + c → i * u * c ≤ (M + u) * c
-    other a c i u M g h = let p : i * c * u ≤ (a + c) * u = mul-le-mul-right u h in omega arith
+    other a c i u M g h = omega (arith, mul-le-mul-right u h)
 
 pub ceil-neg : (y : Float) → Good y → sign y ≡ true → (j : ℕ) × (ceil y ≡ negℤ (pos j)) × (mag y ≤ suc j * unit) × (suc j * unit ≤ mag y + unit)
 unfolding ceil Good sign
@@ -60,10 +63,10 @@ ceil-neg (fin true m e) g s =
     (j, refl, le-of-mul-le-mul-right {k = c} (one a c j unit (mag (fin true m e)) g (lt-div-mul-add (down-pos e))) (down-pos e), le-of-mul-le-mul-right {k = c} (other a c j unit (mag (fin true m e)) g (div-mul-le-self a c)) (down-pos e))
   where
     one : (a c j u M : ℕ) → a * u ≡ M * c → a < j * c + c → M * c ≤ suc j * u * c
-    one a c j u M g h = let p : a * u ≤ (j * c + c) * u = mul-le-mul-right u (le-of-lt h) in omega arith
+    one a c j u M g h = omega (arith, mul-le-mul-right u (le-of-lt h))
 
     other : (a c j u M : ℕ) → a * u ≡ M * c → j * c ≤ a → suc j * u * c ≤ (M + u) * c
-    other a c j u M g h = let p : j * c * u ≤ a * u = mul-le-mul-right u h in omega arith
+    other a c j u M g h = omega (arith, mul-le-mul-right u h)
 
 -- ---- from a rounded difference to Indexed: z is c - half or c + half, of size C - H before rounding
 module _ (side : Float) (s : Side side) (H : ℕ) (e : mag side ≡ 2 * H) (C : ℕ) (c : C ≤ 2 ^ 16 * unit) (o : H ≤ C) where
@@ -89,35 +92,15 @@ module _ (side : Float) (s : Side side) (H : ℕ) (e : mag side ≡ 2 * H) (C : 
           shape C H d t o a b = omega arith
 
   quotient-ok : (d : ℕ) → d + H ≤ C + tiny → d ≤ 2 ^ 100 * mag side
-  quotient-ok d h = go d H C unit tiny (mag side) unit-tiny h c (s .low)
-    where
-      go : (d H C u t S : ℕ) → u ≡ 2 ^ 36 * t → d + H ≤ C + t → C ≤ 2 ^ 16 * u → u ≤ 2 ^ 13 * S → d ≤ 2 ^ 100 * S
-      go d H C u t S e h c l = le-trans (first d H C u t e h c) (le-trans (mul-le-mul-left (2 ^ 17) l) (second S))
-        where
-          first : (d H C u t : ℕ) → u ≡ 2 ^ 36 * t → d + H ≤ C + t → C ≤ 2 ^ 16 * u → d ≤ 2 ^ 17 * u
-          first d H C u t e h c = omega arith
-
-          second : (S : ℕ) → 2 ^ 17 * (2 ^ 13 * S) ≤ 2 ^ 100 * S
-          second S = omega arith
+  quotient-ok d h = belowℕ (d ∷ H ∷ C ∷ unit ∷ tiny ∷ mag side ∷ [])
+      (slackℕ h ⊞ slackℕ c ⊞ num (2 ^ 16 + 1) ⊠ slackℕ (s .low) ⊞ num (H + (2 ^ 36 - 1) * tiny + (2 ^ 100 - (2 ^ 16 + 1) * 2 ^ 13) * mag side) ⊞ nil (diffℕ unit-tiny)) (search poly depth 30) done
 
 -- the index is small
 index-small : (Y S d u i : ℕ) → 0 < u → Close Y (d * u) S → d ≤ 2 ^ 17 * u → S ≤ 2 ^ 16 * u → u ≤ 2 ^ 13 * S → i * u ≤ Y + u → i ≤ 2 ^ 40
-index-small Y S d u i p c b h l n =
-    let a : Y * S ≤ 2 * (d * u) + S = close-twice Y (d * u) S c in
-    let k : Y * u ≤ 2 ^ 13 * (Y * S) = le-trans (mul-le-mul-left Y l) (le-of-eq (swap Y S)) in
-    let e : d * u ≤ 2 ^ 17 * (u * u) = le-trans (mul-le-mul-right u b) (le-of-eq (mul-assoc (2 ^ 17) u u)) in
-    let f : u ≤ u * u = le-trans (le-of-eq (sym (one-mul u))) (mul-le-mul-right u p) in
-    let y : Y ≤ 2 ^ 38 * u = le-of-mul-le-mul-right {k = u} (le-trans (sum (Y * u) (Y * S) (d * u) S u (u * u) k a e h f) (le-of-eq (sym (mul-assoc (2 ^ 38) u u)))) p in
-    le-of-mul-le-mul-right {k = u} (last (i * u) Y u n y) p
-  where
-    swap : (Y S : ℕ) → Y * (2 ^ 13 * S) ≡ 2 ^ 13 * (Y * S)
-    swap Y S = omega arith
-
-    sum : (yu ys du S u uu : ℕ) → yu ≤ 2 ^ 13 * ys → ys ≤ 2 * du + S → du ≤ 2 ^ 17 * uu → S ≤ 2 ^ 16 * u → u ≤ uu → yu ≤ 2 ^ 38 * uu
-    sum yu ys du S u uu a b c d e = omega arith
-
-    last : (n Y u : ℕ) → n ≤ Y + u → Y ≤ 2 ^ 38 * u → n ≤ 2 ^ 40 * u
-    last n Y u a b = omega arith
+index-small Y S d u i p c b h l n = le-of-mul-le-mul-right {k = u * u}
+    (belowℕ (Y ∷ S ∷ d ∷ u ∷ i ∷ [])
+    (num u ⊠ slackℕ n ⊞ num Y ⊠ slackℕ l ⊞ num (2 ^ 13) ⊠ (slackℕ (close-twice Y (d * u) S c) ⊞ slackℕ h) ⊞ num (2 ^ 14 * u) ⊠ slackℕ b ⊞ num (2 ^ 29 * u) ⊠ slackℕ p
+    ⊞ num ((2 ^ 40 - 2 ^ 31 - 2 ^ 29 - 1) * (u * u))) (search poly depth 30) done) (mul-pos p p)
 
 d-small : (d H C u t : ℕ) → u ≡ 2 ^ 36 * t → d + H ≤ C + t → C ≤ 2 ^ 16 * u → d ≤ 2 ^ 17 * u
 d-small d H C u t e h c = omega arith
@@ -128,11 +111,8 @@ pub record Centred (x side : Float) (n : ℕ) : Type 0 where
   pub sign-is : sign (mul binary64 x side) ≡ sign x
   pub close : Close (mag (mul binary64 x side)) (n * unit * mag side) unit
 
-wide-shape : (u : ℕ) → 2 ^ 40 * u * (2 ^ 16 * u) ≡ 2 ^ 56 * u * u
-wide-shape u = omega arith
-
 wide : (u : ℕ) → 2 ^ 40 * u * (2 ^ 16 * u) ≤ 2 ^ 100 * u * u
-wide u = le-trans (le-of-eq (wide-shape u)) (mul-le-mul-right u (mul-le-mul-right u (lit≤ tt)))
+wide u = belowℕ (u ∷ []) (num ((2 ^ 100 - 2 ^ 56) * (u * u))) (search poly depth 30) done
 
 centred : (x side : Float) (t : Bool) (n : ℕ) → n ≤ 2 ^ 40 → Is x t (n * unit) → Side side → Centred x side n
 centred x side t n b x-is s =
@@ -151,11 +131,17 @@ pub record Quotient (side : Float) (H C : ℕ) (t : Bool) (z : Float) : Type 0 w
   pub over : mag z + H ≤ C + tiny
   pub close : Close (mag (div binary64 z side)) (mag z * unit) (mag side)
 
+pub side-pos : (side : Float) → Side side → 0 < mag side
+side-pos side s = go (mag side) unit unit-pos (s .low)
+  where
+    go : (S u : ℕ) → 0 < u → u ≤ 2 ^ 13 * S → 0 < S
+    go S u p l = omega arith
+
 quotient : (side : Float) (s : Side side) (H : ℕ) → mag side ≡ 2 * H → (C : ℕ) → C ≤ 2 ^ 16 * unit → H ≤ C → (t : Bool) (z : Float) → z ≡ round binary64 t (C - H) unit → Quotient side H C t z
 quotient side s H e C c o t z h =
     let d = D-is side s H e C c o t z h in
     let n = D-near side s H e C c o (mag z) (d .close) in
-    let q = div-near z side (d .good) (s .good) (side-pos (mag side) unit unit-pos (s .low)) (quotient-ok side s H e C c o (mag z) (n .1)) in
+    let q = div-near z side (d .good) (s .good) (side-pos side s) (quotient-ok side s H e C c o (mag z) (n .1)) in
     record {
       good = q .good;
       sign-is = q .sign-is ∙ ap (unlike (sign z)) (s .sign-is) ∙ unlike-false (sign z) ∙ d .sign-is;
@@ -163,9 +149,6 @@ quotient side s H e C c o t z h =
       over = n .1;
       close = q .close;
     }
-  where
-    side-pos : (S u : ℕ) → 0 < u → u ≤ 2 ^ 13 * S → 0 < S
-    side-pos S u p l = omega arith
 
 -- ---- the box around it, by sizes
 boxed : (side : Float) (s : Side side) (H : ℕ) → mag side ≡ 2 * H → (C : ℕ) → C ≤ 2 ^ 16 * unit → (t : Bool) (z : Float) → Quotient side H C t z
@@ -189,32 +172,13 @@ gap-neg x y s t n a b = go (plus x) (minus x) (plus y) (minus y) (mag x) (mag y)
     go px mx py my X Y g a b c d i j (inl h) = omega arith
     go px mx py my X Y g a b c d i j (inr h) = omega arith
 
-assoc : (a b c : ℕ) → a + b + c ≡ a + (b + c)
-assoc a b c = omega arith
-
 -- ---- the three cases
 pub record InBox (c side : Float) (H : ℕ) (i : ℤ) : Type 0 where
   pub good : Good (centre side i)
   pub near : gap c (centre side i) ≤ H + 6 * tiny
 
 no-size : (M S u : ℕ) → 0 < u → Close M (0 * u * S) u → M ≡ 0
-no-size M S u p c = first (M * u) (0 * u * S) u M p (zero-mul' u S) (c .0)
-  where
-    zero-mul' : (u S : ℕ) → 0 * u * S ≡ 0
-    zero-mul' u S = omega arith
-
-    cancel : (M u : ℕ) → 0 < u → 2 ^ 53 * (M * u) ≤ 2 ^ 52 * u → M ≡ 0
-    cancel zero u p h = refl
-    cancel (suc M) u p h = absurd (bad (M * u) u p (subst (λ (n : ℕ). 2 ^ 53 * n ≤ 2 ^ 52 * u) (suc-mul M u) h))
-      where
-        bad : (n u : ℕ) → 0 < u → 2 ^ 53 * (n + u) ≤ 2 ^ 52 * u → ⊥
-        bad n u p h = omega arith
-
-    first : (x n u M : ℕ) → 0 < u → n ≡ 0 → 2 ^ 53 * (M * u) ≤ 2 ^ 53 * n + n + 2 ^ 52 * u → M ≡ 0
-    first x n u M p z h = cancel M u p (subst (λ (k : ℕ). 2 ^ 53 * (M * u) ≤ k) (flat n (2 ^ 52 * u) z) h)
-      where
-        flat : (n w : ℕ) → n ≡ 0 → 2 ^ 53 * n + n + w ≡ w
-        flat n w z = omega arith
+no-size M S u p c = let k : M < 1 = lt-of-mul-lt-mul-right u (omega arith) in omega arith
 
 middle : (pc mc pC mC ph mh pn mn g H t : ℕ) → pn ≡ mh → mn ≡ ph → ph ≡ H → mh ≡ 0 → pC ≡ 0 → mC ≡ 0 → pn + mc ≤ pc + mn → pc + mh < ph + mc → (pc + mC ≡ mc + pC + g) ⊎ (mc + pC ≡ pc + mC + g) → g ≤ H + 6 * t
 middle pc mc pC mC ph mh pn mn g H t a b c d e f i j (inl k) = omega arith
@@ -237,7 +201,7 @@ module _ (side : Float) (s : Side side) (h : Float) (H : ℕ) (e : mag side ≡ 
       (record {
         good = m .good;
         near = gap-pos c (mul binary64 (ofInt binary64 (pos n)) side) t (m .sign-is ∙ x .sign-is) (H + 6 * tiny)
-            (le-trans (k .0) (le-of-eq (assoc (mag (mul binary64 (ofInt binary64 (pos n)) side)) H (6 * tiny)))) (le-trans (k .1) (le-of-eq (assoc (mag c) H (6 * tiny))));
+            (le-trans (k .0) (le-of-eq (add-assoc (mag (mul binary64 (ofInt binary64 (pos n)) side)) H (6 * tiny)))) (le-trans (k .1) (le-of-eq (add-assoc (mag c) H (6 * tiny))));
       })
 
   below-box : (c : Float) → Good c → sign c ≡ true → mag c ≤ 2 ^ 16 * unit → H < mag c → InBox c side H (negsuc 0 +ℤ ceil (div binary64 (add binary64 c h) side))
@@ -256,7 +220,7 @@ module _ (side : Float) (s : Side side) (h : Float) (H : ℕ) (e : mag side ≡ 
       (record {
         good = m .good;
         near = gap-neg c (mul binary64 (ofInt binary64 (negsuc n)) side) t (m .sign-is ∙ x .sign-is) (H + 6 * tiny)
-            (le-trans (k .0) (le-of-eq (assoc (mag (mul binary64 (ofInt binary64 (negsuc n)) side)) H (6 * tiny)))) (le-trans (k .1) (le-of-eq (assoc (mag c) H (6 * tiny))));
+            (le-trans (k .0) (le-of-eq (add-assoc (mag (mul binary64 (ofInt binary64 (negsuc n)) side)) H (6 * tiny)))) (le-trans (k .1) (le-of-eq (add-assoc (mag c) H (6 * tiny))));
       })
     where
       less : (n : ℕ) → negsuc 0 +ℤ negℤ (pos n) ≡ negsuc n

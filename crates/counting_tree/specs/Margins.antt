@@ -1,15 +1,18 @@
 -- The margins of the box tests, in units: what is nearer than t is not Disjoint, what passes FullyCovered lies within the far reach, and the last level decides.
-use mathlib.Core.Path.{_≡_, refl, sym, ap, _∙_, subst}
+use mathlib.Core.Path.{_≡_, refl, _∙_}
 use mathlib.Core.Logic.{_⊎_, inl, inr}
-use mathlib.Core.List.{List}
+use mathlib.Core.List.{List, [], _∷_}
 use Prim.Native.Nat.{ℕ, zero, suc, _+_, _-_, _*_, _^_, _≤_, _<_}
-use native.Mathlib.Nat.{one-mul, le-trans, le-of-eq, lt-of-le-of-lt, mul-le-mul-left, mul-le-mul-right, mul-pos, mul-assoc, le-of-lt, le-dest, add-comm, le-of-mul-le-mul-left}
+use native.Mathlib.Nat.{le-trans, le-of-eq, lt-of-le-of-lt, mul-le-mul-left, mul-le-mul-right, le-of-lt, le-dest, add-comm, le-of-mul-le-mul-left}
 use native.Mathlib.Numerals.{add-one}
-use native.Mathlib.Omega.{arith}
-use lib.Dec.{T}
+use native.Mathlib.Omega.{arith, by-contra}
+use lib.IntN.{pos}
 use lib.ListN.{length}
 use lib.Ieee.{Float}
-use Rattle.ieee754.specs.Norm.{squares, Tri, none, more, triangle, sq-mono, lt-or-ge}
+use Rattle.ring.specs.Ring.{ringℕ, poly, done, _⊖_}
+use Rattle.ring.specs.Order.{belowℕ, num, slackℕ, _⊞_, _⊠_, nil, diffℕ, _⊕_, _⊙_}
+use Rattle.ring.specs.Nat.{sq-mono}
+use Rattle.ring.specs.InnerProduct.{squares, Tri, none, more, triangle}
 use Rattle.ieee754.specs.Value.{unit, tiny, unit-tiny, tiny-large, mag}
 use Rattle.ieee754.specs.Ops.{plus, minus}
 use Rattle.counting_tree.specs.Box.{distance}
@@ -55,12 +58,7 @@ tri-back (one {q} {p = x} g k w n) (one {p = c} g' k' w' n') = more (turn (gap q
 -- A = t - 2 ^ -17
 below-t : (N t u κ A : ℕ) → u ≡ 2 ^ 17 * κ → t ≤ 2 ^ 16 → A + κ ≡ t * u → N + 1 ≤ t * t → N * (u * u) ≤ A * A
 below-t N t u κ A e b a h =
-    let p : (N + 1) * (u * u) ≤ t * t * (u * u) = mul-le-mul-right (u * u) h in
-    let q : (A + κ) * (A + κ) ≡ t * u * (t * u) = ap (λ (x : ℕ). x * x) a in
-    let r : t * (u * κ) ≤ 2 ^ 16 * (u * κ) = mul-le-mul-right (u * κ) b in
-    let s : (A + κ) * κ ≡ t * u * κ = ap (λ (x : ℕ). x * κ) a in
-    let v : u * u ≡ u * (2 ^ 17 * κ) = ap (λ (x : ℕ). u * x) e in
-    omega arith
+    belowℕ (N ∷ t ∷ u ∷ κ ∷ A ∷ []) (slackℕ h ⊠ num (u * u) ⊞ num (2 * κ * u) ⊠ slackℕ b ⊞ num (κ * κ) ⊞ nil ((pos (A + t * u) ⊖ pos κ) ⊙ diffℕ a ⊕ pos u ⊙ diffℕ e)) (search poly depth 30) done
 
 last-g1 : (z A hh t κ u T : ℕ) → A + κ ≡ T → κ ≡ 2 ^ 19 * t → z ≤ A + (hh + 32 * t) + 512 * t → z ≤ T + hh
 last-g1 z A hh t κ u T a k h = omega arith
@@ -69,7 +67,7 @@ pub not-far : {qs xs cs : List Float} → Near qs cs → Near qs xs → Near xs 
     → squares (gaps xs cs) ≤ (hh + 32 * tiny) * (hh + 32 * tiny) → hh ≤ 2 ^ 17 * unit → mag (distance qs cs) ≤ t * unit + hh
 not-far {qs} {xs} {cs} n m k l N t hh u lt b v small =
     let κ = 2 ^ 19 * tiny in
-    let U : unit ≡ 2 ^ 17 * κ = unit-tiny ∙ split tiny in
+    let U : unit ≡ 2 ^ 17 * κ = unit-tiny ∙ ringℕ (tiny ∷ []) (search poly depth 30) done in
     let d = le-dest (positive t lt U) in
     let A = d .0 in
     let a : A + κ ≡ t * unit = add-comm A κ ∙ d .1 in
@@ -77,48 +75,22 @@ not-far {qs} {xs} {cs} n m k l N t hh u lt b v small =
     let w = triangle A (hh + 32 * tiny) (tri-gaps m k) x v in
     last-g1 (mag (distance qs cs)) A hh tiny κ unit (t * unit) a refl (dist-high n l (A + (hh + 32 * tiny)) (bound A hh t unit tiny unit-tiny b a small) w)
   where
-    split : (t : ℕ) → 2 ^ 36 * t ≡ 2 ^ 17 * (2 ^ 19 * t)
-    split t = omega arith
-
     positive : (t : ℕ) → N < t * t → unit ≡ 2 ^ 17 * (2 ^ 19 * tiny) → 2 ^ 19 * tiny ≤ t * unit
     positive zero h e = absurd (none-below N h)
       where
         none-below : (N : ℕ) → N < 0 * 0 → ⊥
         none-below N h = omega arith
-    positive (suc t) h e = le-trans (le-trans (big (2 ^ 19 * tiny)) (le-of-eq (sym e))) (le-trans (le-of-eq (sym (one-mul unit))) (mul-le-mul-right unit (suc-le t)))
-      where
-        big : (k : ℕ) → k ≤ 2 ^ 17 * k
-        big k = omega arith
-
-        suc-le : (t : ℕ) → 1 ≤ suc t
-        suc-le t = omega arith
+    positive (suc t) h e = belowℕ (t ∷ unit ∷ tiny ∷ []) (num (t * unit + (2 ^ 36 - 2 ^ 19) * tiny) ⊞ nil (diffℕ e)) (search poly depth 30) done
 
     bound : (A hh t u y : ℕ) → u ≡ 2 ^ 36 * y → t ≤ 2 ^ 16 → A + 2 ^ 19 * y ≡ t * u → hh ≤ 2 ^ 17 * u → A + (hh + 32 * y) ≤ 2 ^ 55 * y
-    bound A hh t u y e b a h = let p : t * u ≤ 2 ^ 16 * u = mul-le-mul-right u b in omega arith
+    bound A hh t u y e b a h = omega (arith, mul-le-mul-right u b)
 
 -- ---- a frame under a box that passes the first test of FullyCovered
 -- (E + 600 t)² < E² + u²
 pub reach-sum : (E u t : ℕ) → u ≡ 2 ^ 36 * t → 0 < t → E ≤ 2 ^ 17 * u → (E + 600 * t) * (E + 600 * t) < E * E + u * u
-reach-sum E u t e p b =
-    let f : E ≤ 2 ^ 53 * t = le-trans b (le-of-eq (ap (λ (x : ℕ). 2 ^ 17 * x) e ∙ shape t)) in
-    let q : E * t ≤ 2 ^ 53 * (t * t) = le-trans (mul-le-mul-right t f) (le-of-eq (mul-assoc (2 ^ 53) t t)) in
-    let s : u * u ≡ 2 ^ 72 * (t * t) = ap (λ (x : ℕ). x * x) e ∙ square t in
-    subst (λ (x : ℕ). (E + 600 * t) * (E + 600 * t) < E * E + x) (sym s) (sum (E * E) (E * t) (t * t) q (mul-pos p p))
-  where
-    shape : (t : ℕ) → 2 ^ 17 * (2 ^ 36 * t) ≡ 2 ^ 53 * t
-    shape t = omega arith
-
-    square : (t : ℕ) → 2 ^ 36 * t * (2 ^ 36 * t) ≡ 2 ^ 72 * (t * t)
-    square t = omega arith
-
-    poly : (E t : ℕ) → (E + 600 * t) * (E + 600 * t) ≡ E * E + 1200 * (E * t) + 360000 * (t * t)
-    poly E t = omega arith
-
-    sum : (ee et w : ℕ) → E * t ≤ 2 ^ 53 * (t * t) → 0 < t * t → (E + 600 * t) * (E + 600 * t) < E * E + 2 ^ 72 * (t * t)
-    sum ee et w q o = subst (λ (x : ℕ). x < E * E + 2 ^ 72 * (t * t)) (sym (poly E t)) (lin (E * E) (E * t) (t * t) q o)
-      where
-        lin : (a b c : ℕ) → b ≤ 2 ^ 53 * c → 0 < c → a + 1200 * b + 360000 * c < a + 2 ^ 72 * c
-        lin a b c q o = omega arith
+reach-sum E u t e p b = belowℕ (E ∷ u ∷ t ∷ [])
+    (num (1200 * t) ⊠ slackℕ b ⊞ slackℕ p ⊠ num (t + 1) ⊞ num (((2 ^ 36 - 1200 * 2 ^ 17) * 2 ^ 36 - 360001) * (t * t)) ⊞ nil (pos (u + (2 ^ 36 - 1200 * 2 ^ 17) * t) ⊙ diffℕ e))
+    (search poly depth 30) done
 
 pub within-reach : {qs xs cs : List Float} → Near qs cs → Near qs xs → Near xs cs → length qs ≤ 4 → (E hh : ℕ) → E ≤ 2 ^ 17 * unit
     → squares (gaps xs cs) ≤ (hh + 32 * tiny) * (hh + 32 * tiny) → mag (distance qs cs) + hh ≤ E + 32 * tiny → squares (gaps qs xs) < E * E + unit * unit
@@ -126,10 +98,7 @@ within-reach {qs} {xs} {cs} n m k l E hh b v h =
     let z = mag (distance qs cs) in
     let P : 1 ≤ tiny = omega (arith, tiny-large) in
     let s = bounds z hh E unit tiny unit-tiny b P h in
-    let w : squares (gaps qs cs) ≤ (z + 512 * tiny + 1) * (z + 512 * tiny + 1) = elim (lt-or-ge ((z + 512 * tiny + 1) * (z + 512 * tiny + 1)) (squares (gaps qs cs))) [
-      | inl f ↦ absurd (more-than (z + 512 * tiny) (dist-low n l (z + 512 * tiny + 1) s (le-of-lt f)))
-      | inr f ↦ f
-    ] in
+    let w = by-contra (squares (gaps qs cs)) ((z + 512 * tiny + 1) * (z + 512 * tiny + 1)) (λ f. more-than (z + 512 * tiny) (dist-low n l (z + 512 * tiny + 1) s (le-of-lt f))) in
     lt-of-le-of-lt (triangle (z + 512 * tiny + 1) (hh + 32 * tiny) (tri-back m k) w v)
     (lt-of-le-of-lt (sq-mono (total z hh E tiny P h)) (reach-sum E unit tiny unit-tiny P b))
   where
@@ -145,10 +114,4 @@ within-reach {qs} {xs} {cs} n m k l E hh b v h =
 -- ---- at the last level a box that is not Disjoint passes the first test of FullyCovered
 -- R = 2 ^ (1 + s): R * 2 hh is the tolerance T but for 4 t, R * (E - T) = 2 T
 pub last-level : (z hh T E R t : ℕ) → R ≤ 2 ^ 11 → R * (2 * hh) ≤ T + 4 * t → R * E ≡ R * T + 2 * T → 2 ^ 36 * t ≤ T → z ≤ T + hh + 32 * t → 0 < R → z + hh ≤ E
-last-level z hh T E R t b r e l h p =
-    let x : R * (z + hh) ≤ R * (T + hh + 32 * t + hh) = mul-le-mul-left R (step z hh T t h) in
-    let y : R * t ≤ 2 ^ 11 * t = mul-le-mul-right t b in
-    le-of-mul-le-mul-left {k = R} (omega arith) p
-  where
-    step : (z hh T t : ℕ) → z ≤ T + hh + 32 * t → z + hh ≤ T + hh + 32 * t + hh
-    step z hh T t h = omega arith
+last-level z hh T E R t b r e l h p = le-of-mul-le-mul-left {k = R} (omega (arith, mul-le-mul-left R h, mul-le-mul-right t b)) p

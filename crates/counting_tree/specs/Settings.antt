@@ -1,18 +1,22 @@
 -- The settings of an accepted run as numbers: the tolerance is t, the slack 1 / 2 ^ s and the extended tolerance t × (2 ^ s + 1) / 2 ^ s, each exact.
 use mathlib.Core.Path.{_≡_, refl, sym, ap, _∙_, subst}
 use mathlib.Core.Bool.{Bool, true, false, _||_, cond, Bool·beq}
+use mathlib.Core.List.{[], _∷_}
 use Prim.Native.Nat.{ℕ, zero, suc, _+_, _-_, _*_, _^_, _≤_, _<_}
-use native.Mathlib.Nat.{le-trans, le-of-eq, lt-of-le-of-lt, lt-of-lt-of-le, mul-le-mul, mul-le-mul-right, mul-pos, mul-assoc, one-mul, zero-mul, zero-lt-suc, eq-of-mul-eq-mul-right}
+use native.Mathlib.Nat.{le-trans, le-of-eq, lt-of-le-of-lt, lt-of-lt-of-le, mul-le-mul, mul-le-mul-right, mul-pos, one-mul, zero-mul, zero-lt-suc, eq-of-mul-eq-mul-right}
 use native.Mathlib.Omega.{arith}
+use lib.IntN.{pos}
 use lib.Dec.{T, eqb, eqb→eq, lit<, lit≤}
 use lib.Pow.{pow-add, pow-pos, pow-mono}
 use lib.Ieee.{Float, nan, inf, fin, binary64, up, down, add, eq, round, unlike}
 use lib.Ieee.Exact.{HasValue}
 use lib.Ieee.Fits.{down-pos}
 use Rattle.lists.specs.ListLaws.{and-left, and-right}
+use Rattle.ring.specs.Ring.{ringℕ, poly, done}
+use Rattle.ring.specs.Order.{belowℕ, equalℕ, num, slackℕ, _⊞_, _⊠_, diffℕ, _⊕_, _⊙_}
 use Rattle.ieee754.specs.Value.{unit, unit-pos, mag, sign, Good, Is, of-value}
 use Rattle.ieee754.specs.Ops.{add-pos}
-use Rattle.ieee754.specs.Exact.{Rep, round-rep, mul-exact, div-exact, ofInt-pos}
+use Rattle.ieee754.specs.Exact.{Rep, whole-value, round-rep, mul-exact, div-exact, ofInt-pos}
 use Rattle.hyperparams.specs.declared.Params.{Params}
 use Rattle.hyperparams.specs.declared.ValidParams.{ValidParams}
 use Rattle.hyperparams.specs.Params.{float, goodTolerance, wholeTolerance, slackAt, slackFrom, slackPower, appxTolerance, validOf}
@@ -31,12 +35,7 @@ pub record Settings (v : ValidParams) : Type 0 where
 
 -- ---- the tolerance
 whole-is : (x : Float) (t : ℕ) → HasValue x false t 1 → Is x false (t * unit)
-whole-is nan t h = absurd h
-whole-is (inf s) t h = absurd h
-whole-is (fin s m e) t h = of-value (fin s m e) false (t * unit) (h .0, shape (m * up e) t (down e) unit (h .1))
-  where
-    shape : (a n d u : ℕ) → a * 1 ≡ n * d → a * u ≡ n * u * d
-    shape a n d u h = let k : a * 1 * u ≡ n * d * u = ap (λ (z : ℕ). z * u) h in omega arith
+whole-is x t h = of-value x false (t * unit) (whole-value x false t h)
 
 -- ---- the slack
 -- what equals a positive number is that number
@@ -57,13 +56,7 @@ equal-is (fin s m e) (fin t n d) P h i p =
     of-value (fin s m e) false P (positive s t (m * up e) (down d) (down e) unit P (down-pos d) (down-pos e) p (i .sign-is) r (and-right (eqb a b) (Bool·beq s t || eqb a 0) h), r)
   where
     turn : (a b c d u P : ℕ) → 0 < d → a * d ≡ b * c → b * u ≡ P * d → a * u ≡ P * c
-    turn a b c d u P q e g = eq-of-mul-eq-mul-right d q (a * u) (P * c) (first a d u ∙ ap (λ (z : ℕ). z * u) e ∙ second b c u ∙ ap (λ (z : ℕ). z * c) g ∙ second P d c)
-      where
-        first : (a d u : ℕ) → a * u * d ≡ a * d * u
-        first a d u = omega arith
-
-        second : (b c u : ℕ) → b * c * u ≡ b * u * c
-        second b c u = omega arith
+    turn a b c d u P q e g = eq-of-mul-eq-mul-right d q (a * u) (P * c) (equalℕ (a ∷ b ∷ c ∷ d ∷ u ∷ P ∷ []) (pos u ⊙ diffℕ e ⊕ pos c ⊙ diffℕ g) (search poly depth 30) done)
 
     positive : (s t : Bool) (a d c u P : ℕ) → 0 < d → 0 < c → 0 < P → t ≡ false → a * u ≡ P * c → T (Bool·beq s t || eqb (a * d) 0) → s ≡ false
     positive false t a d c u P k q p f r h = refl
@@ -99,13 +92,10 @@ slack-is s h =
     record { good = i .good; mag-is = i .mag-is; sign-is = i .sign-is ∙ ap (λ (b : Bool). unlike b (sign (float (2 ^ s)))) (o .sign-is) ∙ ap (unlike false) (w .sign-is) }
   where
     shape : (u a b : ℕ) → u ≡ a * b → u * u ≡ b * (a * u)
-    shape u a b e = ap (λ (n : ℕ). n * u) e ∙ again a b u
-      where
-        again : (a b u : ℕ) → a * b * u ≡ b * (a * u)
-        again a b u = omega arith
+    shape u a b e = equalℕ (u ∷ a ∷ b ∷ []) (pos u ⊙ diffℕ e) (search poly depth 30) done
 
     room : (u a b : ℕ) → u ≡ a * b → 0 < a → b ≤ 2 ^ 100 * u
-    room u a b e p = let k : 1 * b ≤ a * b = mul-le-mul-right b p in omega arith
+    room u a b e p = omega (arith, mul-le-mul-right b p)
 
 slack-found : (k s : ℕ) (x : Float) → slackFrom k s x < s + k → T (eq x (slackAt (slackFrom k s x)))
 slack-found zero s x h = absurd (omega arith)
@@ -117,18 +107,16 @@ slack-found (suc k) s x h = go (eq x (slackAt s)) refl (slack-found k (suc s) x)
 
 -- ---- the extended tolerance
 twice : (a b u : ℕ) → u ≡ a * b → 0 < a → (a + 1) * b ≤ 2 * u
-twice a b u e p = let k : 1 * b ≤ a * b = mul-le-mul-right b p in omega arith
+twice a b u e p = omega (arith, mul-le-mul-right b p)
 
 one-plus : (x : Float) (s : ℕ) → s ≤ 10 → Is x false (part s) → Is (add binary64 (float 1) x) false ((2 ^ s + 1) * part s)
 one-plus x s h i =
     let o = ofInt-pos 1 (lit≤ tt) in
-    let e : mag (float 1) + mag x ≡ (2 ^ s + 1) * part s = ap (λ (n : ℕ). n + mag x) (o .mag-is ∙ one-mul unit ∙ unit-part s h) ∙ ap (λ (n : ℕ). 2 ^ s * part s + n) (i .mag-is) ∙ shape (2 ^ s) (part s) in
+    let e : mag (float 1) + mag x ≡ (2 ^ s + 1) * part s =
+    ap (λ (n : ℕ). n + mag x) (o .mag-is ∙ one-mul unit ∙ unit-part s h) ∙ ap (λ (n : ℕ). 2 ^ s * part s + n) (i .mag-is) ∙ ringℕ (2 ^ s ∷ part s ∷ []) (search poly depth 30) done in
     subst (λ (w : Float). Is w false ((2 ^ s + 1) * part s)) (sym (add-pos (float 1) x (o .good) (i .good) (o .sign-is) (i .sign-is) ∙ ap (λ (n : ℕ). round binary64 false n unit) e))
     (round-rep false ((2 ^ s + 1) * part s) (record { digits = 2 ^ s + 1; places = 1074 - s; few = few (2 ^ s) (low-power s h); is = refl }) (le-trans (twice (2 ^ s) (part s) unit (unit-part s h) (pow-pos s)) (mul-le-mul-right unit (lit≤ tt))))
   where
-    shape : (a b : ℕ) → a * b + b ≡ (a + 1) * b
-    shape a b = omega arith
-
     few : (a : ℕ) → a ≤ 1024 → a + 1 < 2 ^ 53
     few a l = omega arith
 
@@ -163,22 +151,13 @@ settings-of p h q some most =
         go a k = omega arith
 
     high : (t a b u : ℕ) → t ≤ 65535 → (a + 1) * b ≤ 2 * u → t * (a + 1) * b ≤ 2 ^ 17 * u
-    high t a b u h z = le-trans (le-of-eq (mul-assoc t (a + 1) b)) (le-trans (mul-le-mul h z) (last u))
-      where
-        last : (u : ℕ) → 65535 * (2 * u) ≤ 2 ^ 17 * u
-        last u = omega arith
+    high t a b u h z = belowℕ (t ∷ a ∷ b ∷ u ∷ []) (num t ⊠ slackℕ z ⊞ num (2 * u) ⊠ slackℕ h ⊞ num (2 * u)) (search poly depth 30) done
 
     product : (t a b u : ℕ) {x y : ℕ} → x ≡ t * u → y ≡ a * b → x * y ≡ t * a * b * u
-    product t a b u {x} {y} p q = ap (λ (n : ℕ). n * y) p ∙ ap (λ (n : ℕ). t * u * n) q ∙ shape t a b u
-      where
-        shape : (t a b u : ℕ) → t * u * (a * b) ≡ t * a * b * u
-        shape t a b u = omega arith
+    product t a b u {x} {y} p q = equalℕ (t ∷ a ∷ b ∷ u ∷ x ∷ y ∷ []) (pos y ⊙ diffℕ p ⊕ pos (t * u) ⊙ diffℕ q) (search poly depth 30) done
 
     scaled : (t a b u : ℕ) → u ≡ a * b → a * (t * (a + 1) * b) ≡ t * (a + 1) * u
-    scaled t a b u e = shape a (t * (a + 1)) b ∙ ap (λ (n : ℕ). t * (a + 1) * n) (sym e)
-      where
-        shape : (a x b : ℕ) → a * (x * b) ≡ x * (a * b)
-        shape a x b = omega arith
+    scaled t a b u e = equalℕ (t ∷ a ∷ b ∷ u ∷ []) (pos (t * (a + 1)) ⊙ diffℕ (sym e)) (search poly depth 30) done
 
 -- every accepted run
 pub settings-in : {p : Params} {v : ValidParams} {points labels kinds work : ℕ} → Accepted p v points labels kinds work → Settings v

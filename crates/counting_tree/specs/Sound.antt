@@ -1,8 +1,8 @@
 -- What the cells and demand 3 need of the geometry of a run: boxes are classes of frames, and each answer of a box test is right.
 use mathlib.Core.Path.{_≡_, refl, sym, ap, ap₂, _∙_, subst}
 use mathlib.Core.List.{List, [], _∷_, map}
-use Prim.Native.Nat.{ℕ, zero, suc, _+_, _*_, _^_, _≤_, _<_, suc-le-suc}
-use native.Mathlib.Nat.{le-of-eq, lt-of-le-of-lt, mul-le-mul, mul-le-mul-left, mul-le-mul-right, mul-pos, mul-assoc, mul-lt-mul-of-pos-right, lt-of-mul-lt-mul-right, pow-succ', suc-inj, zero-lt-suc}
+use Prim.Native.Nat.{ℕ, suc, _+_, _*_, _^_, _≤_, _<_, suc-le-suc}
+use native.Mathlib.Nat.{lt-of-mul-lt-mul-right, pow-succ', suc-inj, zero-lt-suc}
 use native.Mathlib.Numerals.{one-add}
 use native.Mathlib.Omega.{arith}
 use lib.IntN.{ℤ, pos, negsuc, natAbs}
@@ -10,6 +10,8 @@ use lib.Dec.{T, leb, eqb→eq, eqb-refl}
 use lib.Pow.{pow-pos}
 use lib.ListN.{length}
 use Rattle.lists.specs.ListLaws.{and-left, and-right, and-both}
+use Rattle.ring.specs.Ring.{ringℕ, pow-mul, poly, done, _⊖_}
+use Rattle.ring.specs.Order.{belowℕ, equalℕ, num, slackℕ, _⊞_, _⊠_, nil, diffℕ, _⊕_, _⊙_}
 use Rattle.ieee754.specs.Value.{unit, mag}
 use Rattle.hyperparams.specs.declared.ValidParams.{ValidParams}
 use Rattle.hyperparams.specs.Params.{levels}
@@ -90,41 +92,18 @@ pair (x ∷ xs) (y ∷ ys) e h k = channel (count-small x (h 0 (zero-lt-suc (len
 
 -- ---- from units to N
 four-power : (s : ℕ) → 4 ^ s ≡ 2 ^ s * 2 ^ s
-four-power zero = refl
-four-power (suc s) = pow-succ' 4 s ∙ ap (λ (n : ℕ). 4 * n) (four-power s) ∙ shape (2 ^ s) ∙ ap (λ (n : ℕ). n * n) (sym (pow-succ' 2 s))
-  where
-    shape : (a : ℕ) → 4 * (a * a) ≡ 2 * a * (2 * a)
-    shape a = omega arith
+four-power s = sym (pow-mul 2 s 2) ∙ ringℕ (2 ^ s ∷ []) (search poly depth 30) done
 
 -- N u² < E² + u², and a E = X u
 in-reach : (N E a X u f : ℕ) → 0 < a → f ≡ a * a → a * E ≡ X * u → N * (u * u) < E * E + u * u → N * f < X * X + f
-in-reach N E a X u f p q e h =
-    subst (λ (z : ℕ). N * z < X * X + z) (sym q)
-    (lt-of-mul-lt-mul-right (u * u) (subst (λ (z : ℕ). z < (X * X + a * a) * (u * u)) (left N a u) (subst (λ (z : ℕ). N * (u * u) * (a * a) < z) (right E a u ∙ ap (λ (z : ℕ). z * z + a * a * (u * u)) e ∙ last X a u) (mul-lt-mul-of-pos-right h (mul-pos p p)))))
-  where
-    left : (N a u : ℕ) → N * (u * u) * (a * a) ≡ N * (a * a) * (u * u)
-    left N a u = omega arith
-
-    right : (E a u : ℕ) → (E * E + u * u) * (a * a) ≡ a * E * (a * E) + a * a * (u * u)
-    right E a u = omega arith
-
-    last : (X a u : ℕ) → X * u * (X * u) + a * a * (u * u) ≡ (X * X + a * a) * (u * u)
-    last X a u = omega arith
+in-reach N E a X u f p q e h = lt-of-mul-lt-mul-right (u * u)
+    (belowℕ (N ∷ E ∷ a ∷ X ∷ u ∷ f ∷ [])
+    (num (a * a) ⊠ slackℕ h ⊞ slackℕ p ⊠ num (a + 1) ⊞ nil (pos (a * E + X * u) ⊙ diffℕ (sym e) ⊕ (pos (u * u) ⊖ pos (N * (u * u))) ⊙ diffℕ q)) (search poly depth 30) done)
 
 -- N ≤ t²
 cell-reach : (N t a f : ℕ) → 0 < a → f ≡ a * a → N ≤ t * t → N * f < t * (a + 1) * (t * (a + 1)) + f
 cell-reach N t a f p q h =
-    subst (λ (z : ℕ). N * z < t * (a + 1) * (t * (a + 1)) + z) (sym q)
-    (lt-of-le-of-lt (mul-le-mul-right (a * a) h) (lt-of-le-of-lt (le-of-eq (swap t a)) (less (t * a * (t * a)) (t * (a + 1) * (t * (a + 1))) (a * a) (mul-le-mul (mul-le-mul-left t (more a)) (mul-le-mul-left t (more a))) (mul-pos p p))))
-  where
-    more : (a : ℕ) → a ≤ a + 1
-    more a = omega arith
-
-    swap : (t a : ℕ) → t * t * (a * a) ≡ t * a * (t * a)
-    swap t a = omega arith
-
-    less : (x y z : ℕ) → x ≤ y → 0 < z → x < y + z
-    less x y z h k = omega arith
+    belowℕ (N ∷ t ∷ a ∷ f ∷ []) (num f ⊠ slackℕ h ⊞ slackℕ p ⊠ num (a + 1) ⊞ num (t * t * (2 * a + 1)) ⊞ nil ((pos 1 ⊖ pos (t * t)) ⊙ diffℕ q)) (search poly depth 30) done
 
 -- at the last level l = 1 + s the extended tolerance is t + 2 t / 2 ^ l
 last-scaled : (v : ValidParams) → Settings v → 2 ^ levels (v .s) * mag (v .«appx_tolerance») ≡ 2 ^ levels (v .s) * mag (v .tolerance) + 2 * mag (v .tolerance)
@@ -133,10 +112,7 @@ last-scaled v S =
     ∙ ap (λ (k : ℕ). 2 ^ levels (v .s) * k + 2 * k) (sym (S .scale .is .mag-is))
   where
     go : (a b E t u : ℕ) → b ≡ 2 * a → a * E ≡ t * (a + 1) * u → b * E ≡ b * (t * u) + 2 * (t * u)
-    go a b E t u e f = ap (λ (k : ℕ). k * E) e ∙ mul-assoc 2 a E ∙ ap (λ (k : ℕ). 2 * k) f ∙ shape a t u ∙ ap (λ (k : ℕ). k * (t * u) + 2 * (t * u)) (sym e)
-      where
-        shape : (a t u : ℕ) → 2 * (t * (a + 1) * u) ≡ 2 * a * (t * u) + 2 * (t * u)
-        shape a t u = omega arith
+    go a b E t u e f = equalℕ (a ∷ b ∷ E ∷ t ∷ u ∷ []) ((pos E ⊖ pos (t * u)) ⊙ diffℕ e ⊕ pos 2 ⊙ diffℕ f) (search poly depth 30) done
 
 module _ (v : ValidParams) (fs : List Frame) (D : Domain v fs) where
   frames-pair : (i j : ℕ) → i < length fs → j < length fs → Pair (frame v fs i) (frame v fs j)

@@ -2,15 +2,19 @@
 use mathlib.Core.Path.{_≡_, refl, sym, ap, subst}
 use mathlib.Core.Bool.{Bool, false, not}
 use mathlib.Core.List.{List, [], _∷_}
-use Prim.Native.Nat.{ℕ, _+_, _-_, _*_, _^_, _≤_, _<_}
+use Prim.Native.Nat.{ℕ, _+_, _*_, _^_, _≤_, _<_}
 use native.Mathlib.Nat.{le-trans, le-of-eq, le-refl, lt-of-le-of-lt, mul-le-mul-right, add-le-add}
 use native.Mathlib.Omega.{arith}
+use lib.IntN.{pos}
 use lib.Dec.{T, leb→le, le→leb, nltb→le, T-not, lit<, lit≤}
 use lib.Pow.{pow-pos, pow-mono}
 use lib.ListN.{length}
 use lib.Arith.{le→nltb}
 use lib.Ieee.{Float, binary64, add, sub, lt, le}
-use Rattle.ieee754.specs.Norm.{squares, Tri, none, more, triangle, sq-mono}
+use Rattle.ring.specs.Ring.{ringℕ, poly, done}
+use Rattle.ring.specs.Order.{equalℕ, diffℕ, _⊙_}
+use Rattle.ring.specs.Nat.{sq-mono}
+use Rattle.ring.specs.InnerProduct.{squares, Tri, none, more, triangle}
 use Rattle.ieee754.specs.Value.{unit, tiny, unit-tiny, tiny-large, mag, sign, Good}
 use Rattle.ieee754.specs.Ops.{plus, minus, plus-pos, minus-pos, Approx, SumOf, add-of, sub-of, sum-approx}
 use Rattle.ieee754.specs.Compare.{lt-is, le-is}
@@ -167,23 +171,16 @@ module _ {d : ℕ} {t : Float} {τ : ℕ} (S : Scale d t τ) (l : ℕ) (ll : l �
   h-le = go (2 ^ l) (mag (radius d (sideAt d t l))) (mag t) unit tiny (pow-pos l) (radius-high S l ll) (tolerance-high S) unit-tiny
     where
       go : (R hh T u y : ℕ) → 0 < R → R * (2 * hh) ≤ T + 4 * y → T ≤ 65535 * u → u ≡ 2 ^ 36 * y → hh ≤ 2 ^ 17 * u
-      go R hh T u y p b h e = let k : 1 * (2 * hh) ≤ R * (2 * hh) = mul-le-mul-right (2 * hh) p in last (R * (2 * hh)) hh T u y k b h e
-        where
-          last : (x hh T u y : ℕ) → 1 * (2 * hh) ≤ x → x ≤ T + 4 * y → T ≤ 65535 * u → u ≡ 2 ^ 36 * y → hh ≤ 2 ^ 17 * u
-          last x hh T u y k b h e = omega arith
+      go R hh T u y p b h e = omega (arith, mul-le-mul-right (2 * hh) p)
 
   far : {qs ps : List Float} → Near qs ps → squares (gaps qs ps) ≤ squares (same (2 ^ 18 * unit) qs)
   far no-more = le-refl 0
   far (one g k w n) = add-le-add (sq-mono w) (far n)
 
   D-le : mag (distance qs cs) ≤ 2 ^ 19 * unit + 512 * tiny
-  D-le = dist-high near four (2 ^ 19 * unit) (le-of-eq (shape unit tiny unit-tiny)) (le-trans (far near) (le-trans (same-short (2 ^ 18 * unit) qs four) (le-of-eq (square unit))))
-    where
-      shape : (u y : ℕ) → u ≡ 2 ^ 36 * y → 2 ^ 19 * u ≡ 2 ^ 55 * y
-      shape u y e = omega arith
-
-      square : (u : ℕ) → 2 * (2 ^ 18 * u) * (2 * (2 ^ 18 * u)) ≡ 2 ^ 19 * u * (2 ^ 19 * u)
-      square u = omega arith
+  D-le =
+      dist-high near four (2 ^ 19 * unit) (le-of-eq (equalℕ (unit ∷ tiny ∷ []) (pos (2 ^ 19) ⊙ diffℕ unit-tiny) (search poly depth 30) done))
+      (le-trans (far near) (le-trans (same-short (2 ^ 18 * unit) qs four) (le-of-eq (ringℕ (unit ∷ []) (search poly depth 30) done))))
 
   sizes : Sizes (distance qs cs) (radius d (sideAt d t l))
   sizes = record { D-good = dist-good near four .0; D-sign = dist-good near four .1; h-good = h-ok .good; h-sign = h-ok .sign-is; D-small = le-trans D-le (more-room unit tiny unit-tiny); h-small = h-le }

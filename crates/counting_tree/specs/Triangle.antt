@@ -6,7 +6,7 @@ use native.Mathlib.Nat.{suc-inj}
 use native.Mathlib.Omega.{arith}
 use lib.IntN.{ℤ, pos, negsuc}
 use lib.ListN.{length}
-use Rattle.ieee754.specs.Norm.{squares, Tri, none, more, triangle}
+use Rattle.ring.specs.InnerProduct.{squares, Tri, none, more, triangle}
 use Rattle.counting_tree.specs.Frames.{Frame, apart, squared}
 
 apart-self : (x : ℤ) → apart x x ≡ 0

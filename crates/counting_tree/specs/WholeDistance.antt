@@ -1,17 +1,15 @@
 -- Between frames the float distance is exact but for its root, and "distance ≤ t" is "sum of squares ≤ t × t".
 use mathlib.Core.Path.{_≡_, sym, ap, _∙_, subst}
-use mathlib.Core.Logic.{_⊎_, inl, inr}
-use mathlib.Core.Bool.{Bool, true, false}
+use mathlib.Core.Bool.{false}
 use Prim.Native.Nat.{ℕ, suc, _+_, _*_, _^_, _≤_, _<_, zero-le}
 use native.Mathlib.Nat.{le-trans, le-of-eq, lt-of-le-of-lt, mul-le-mul, mul-le-mul-right, add-assoc, add-zero, zero-add}
-use native.Mathlib.Omega.{arith}
+use native.Mathlib.Omega.{arith, by-contra}
 use lib.Dec.{leb, leb→le, le→leb, lit<, lit≤}
 use lib.ListN.{length}
 use lib.Ieee.{Float, binary64, round, add, sub, mul, ofInt, le}
 use Rattle.lists.specs.ListLaws.{both-ways}
-use Rattle.ieee754.specs.Norm.{lt-or-ge}
 use Rattle.ieee754.specs.Value.{unit, mag, Good, Is}
-use Rattle.ieee754.specs.Ops.{plus, minus, plus-pos, minus-pos, SumOf, above, below, sub-of}
+use Rattle.ieee754.specs.Ops.{plus, minus, plus-pos, minus-pos}
 use Rattle.ieee754.specs.Compare.{le-is}
 use Rattle.ieee754.specs.Exact.{rep-whole, round-rep, ofInt-pos}
 use Rattle.ieee754.specs.Root.{root}
@@ -20,30 +18,16 @@ use Rattle.ieee754.specs.Whole.{root-whole-le, root-whole-lt, whole-square, who
 use Rattle.hyperparams.specs.Params.{float}
 use Rattle.counting_tree.specs.Frames.{Frame, apart, squared, floats}
 use Rattle.counting_tree.specs.Box.{sumFrom, distance}
-use Rattle.counting_tree.specs.Distance.{gap, gap-is}
+use Rattle.counting_tree.specs.Distance.{gap, sub-is}
 use Rattle.counting_tree.specs.InBox.{coordinate-is}
 use Rattle.counting_tree.specs.Sides.{Scale}
 use Rattle.counting_tree.specs.WholeFrames.{Pair, no-channel, channel, gap-apart, apart-le}
 
 whole-difference : (q p : Float) (k : ℕ) → Good q → Good p → k ≤ 2 ^ 16 → gap q p ≡ k * unit → Good (sub binary64 q p) × (mag (sub binary64 q p) ≡ k * unit)
-whole-difference q p k g h b e = go (sub-of q p g h) (gap-is q p)
-  where
-    same : (A B n m : ℕ) → A ≡ B + n → (A ≡ B + m) ⊎ (B ≡ A + m) → n ≡ m
-    same A B n m h (inl e) = omega arith
-    same A B n m h (inr e) = omega arith
-
-    flip : (A B m : ℕ) → (A ≡ B + m) ⊎ (B ≡ A + m) → (B ≡ A + m) ⊎ (A ≡ B + m)
-    flip A B m (inl e) = inr e
-    flip A B m (inr e) = inl e
-
-    at : (s : Bool) (n : ℕ) → sub binary64 q p ≡ round binary64 s n unit → n ≡ gap q p → Good (sub binary64 q p) × (mag (sub binary64 q p) ≡ k * unit)
-    at s n z f =
-        let i = subst (λ (w : ℕ). Is (round binary64 s w unit) s (k * unit)) (sym (f ∙ e)) (round-rep s (k * unit) (rep-whole k (lt-of-le-of-lt b (lit< tt))) (mul-le-mul-right unit (le-trans b (lit≤ tt)))) in
-        subst (λ (w : Float). Good w × (mag w ≡ k * unit)) (sym z) (i .good, i .mag-is)
-
-    go : SumOf (sub binary64 q p) (plus q + minus p) (minus q + plus p) → (plus q + minus p ≡ minus q + plus p + gap q p) ⊎ (minus q + plus p ≡ plus q + minus p + gap q p) → Good (sub binary64 q p) × (mag (sub binary64 q p) ≡ k * unit)
-    go (above n z d) i = at false n z (same (plus q + minus p) (minus q + plus p) n (gap q p) d i)
-    go (below n z d) i = at true n z (same (minus q + plus p) (plus q + minus p) n (gap q p) d (flip (plus q + minus p) (minus q + plus p) (gap q p) i))
+whole-difference q p k g h b e =
+    let d = sub-is q p g h in
+    let i = round-rep (d .0) (k * unit) (rep-whole k (lt-of-le-of-lt b (lit< tt))) (mul-le-mul-right unit (le-trans b (lit≤ tt))) in
+    subst (λ (w : Float). Good w × (mag w ≡ k * unit)) (sym (d .1 ∙ ap (λ (n : ℕ). round binary64 (d .0) n unit) e)) (i .good, i .mag-is)
 
 -- the sum of squares is exact
 pub whole-total : (a : Float) (m : ℕ) {xs ys : Frame} → Pair xs ys → m + squared xs ys < 2 ^ 53 → Is a false (m * unit) → Is (sumFrom a (floats xs) (floats ys)) false ((m + squared xs ys) * unit)
@@ -87,10 +71,10 @@ within-frames {d} {t} {τ} S {xs} {ys} c e =
     let w : n ≤ 2 ^ 100 = le-trans b (lit≤ tt) in
     let r = root-near s (z .good) (z .sign-is) (le-trans (le-of-eq m) (mul-le-mul-right unit w)) in
     le-is (root s) t (r .good) (i .good) ∙ both-ways (leb (plus (root s) + minus t) (plus t + minus (root s))) (leb n (τ * τ))
-    (λ f. le→leb n (τ * τ) (elim (lt-or-ge (τ * τ) n) [
-      | inl l ↦ absurd (clash (plus (root s)) (minus (root s)) (plus t) (minus t) (mag (root s)) (τ * unit) (plus-pos (root s) (r .sign-is)) (minus-pos (root s) (r .sign-is)) (plus-pos t (i .sign-is) ∙ i .mag-is) (minus-pos t (i .sign-is)) (leb→le (plus (root s) + minus t) (plus t + minus (root s)) f) (root-whole-lt s n τ (z .good) (z .sign-is) m w l (le-trans (S .high) (lit≤ tt))))
-      | inr l ↦ l
-    ]))
+    (λ f. le→leb n (τ * τ) (by-contra n (τ * τ) (λ l.
+    clash (plus (root s)) (minus (root s)) (plus t) (minus t) (mag (root s)) (τ * unit)
+    (plus-pos (root s) (r .sign-is)) (minus-pos (root s) (r .sign-is)) (plus-pos t (i .sign-is) ∙ i .mag-is) (minus-pos t (i .sign-is))
+    (leb→le (plus (root s) + minus t) (plus t + minus (root s)) f) (root-whole-lt s n τ (z .good) (z .sign-is) m w l (le-trans (S .high) (lit≤ tt))))))
     (λ f. le→leb (plus (root s) + minus t) (plus t + minus (root s)) (back (plus (root s)) (minus (root s)) (plus t) (minus t) (mag (root s)) (τ * unit) (plus-pos (root s) (r .sign-is)) (minus-pos (root s) (r .sign-is)) (plus-pos t (i .sign-is) ∙ i .mag-is) (minus-pos t (i .sign-is)) (root-whole-le s n τ (z .good) (z .sign-is) m w (leb→le n (τ * τ) f) (lt-of-le-of-lt (S .high) (lit< tt)))))
   where
     clash : (a b c d z e : ℕ) → a ≡ z → b ≡ 0 → c ≡ e → d ≡ 0 → a + d ≤ c + b → e < z → ⊥

@@ -1,20 +1,20 @@
 -- The box tests on frames of whole numbers: what they say of the sum of squared differences.
-use mathlib.Core.Path.{_≡_, refl, sym, ap, _∙_, subst}
-use mathlib.Core.Logic.{_⊎_, inl, inr}
+use mathlib.Core.Path.{_≡_, refl, sym, ap, ap₂, _∙_, subst}
 use mathlib.Core.Bool.{Bool, true, false, not}
 use mathlib.Core.List.{List, [], _∷_, map}
 use Prim.Native.Nat.{ℕ, suc, _+_, _-_, _*_, _^_, _≤_, _<_}
-use native.Mathlib.Nat.{le-trans, le-of-eq, mul-le-mul-right, zero-mul, add-mul, lt-of-mul-lt-mul-right}
+use native.Mathlib.Nat.{le-trans, le-of-eq, mul-le-mul-right, zero-mul, add-mul, mul-comm, mul-sub, lt-of-mul-lt-mul-right}
 use native.Mathlib.Omega.{arith}
 use lib.IntN.{ℤ, pos, negsuc, natAbs}
 use lib.Dec.{T, lit≤}
 use lib.ListN.{length, length-map}
 use lib.Ieee.{Float, binary64, add, sub, lt, le, ofInt}
-use Rattle.ieee754.specs.Norm.{squares, lt-or-ge}
+use Rattle.ring.specs.Ring.{ringℕ, poly, done}
+use Rattle.ring.specs.InnerProduct.{squares}
 use Rattle.ieee754.specs.Value.{unit, unit-pos, tiny, unit-tiny, mag, sign}
-use Rattle.ieee754.specs.Ops.{plus, minus, plus-pos, minus-pos, plus-neg, minus-neg}
+use Rattle.ieee754.specs.Ops.{plus, minus, plus-pos, minus-pos, plus-neg, minus-neg, mag-parts}
 use Rattle.ieee754.specs.Exact.{ofInt-pos, ofInt-neg}
-use Rattle.counting_tree.specs.Distance.{gap, gap-is, gaps, Near, no-more, one}
+use Rattle.counting_tree.specs.Distance.{gap, gaps, Near, no-more, one}
 use Rattle.counting_tree.specs.Margins.{gap-triangle}
 use Rattle.counting_tree.specs.Radius.{Side, radius}
 use Rattle.counting_tree.specs.Frames.{Frame, apart, squared, floats}
@@ -32,50 +32,16 @@ pub data Pair : Frame → Frame → Type 0 where
   no-channel : Pair [] []
   channel : {x y : ℤ} {xs ys : Frame} → natAbs x ≤ 2 ^ 15 → natAbs y ≤ 2 ^ 15 → Pair xs ys → Pair (x ∷ xs) (y ∷ ys)
 
-difference : (a b u g : ℕ) → (a * u ≡ b * u + g) ⊎ (b * u ≡ a * u + g) → g ≡ ((a - b) + (b - a)) * u
-difference a b u g h = elim (lt-or-ge a b) [ inl l ↦ sym (ap (λ (n : ℕ). n * u) (right a b l) ∙ less a b (b - a) u g (right' a b l) h) | inr l ↦ sym (ap (λ (n : ℕ). n * u) (left a b l) ∙ more a b (a - b) u g (left' a b l) h) ]
+-- the gap by the parts of the two values
+gap-by : (x y : Float) {p m q n : ℕ} → plus x ≡ p → minus x ≡ m → plus y ≡ q → minus y ≡ n → gap x y ≡ (p + n - (m + q)) + (m + q - (p + n))
+unfolding gap
+gap-by x y a b c d = rw (a, b, c, d)
+
+same-sign : (a b u : ℕ) → (a * u - b * u) + (b * u - a * u) ≡ ((a - b) + (b - a)) * u
+same-sign a b u = ap₂ _+_ (part a b) (part b a) ∙ sym (add-mul (a - b) (b - a) u)
   where
-    right : (a b : ℕ) → a < b → (a - b) + (b - a) ≡ b - a
-    right a b l = omega arith
-
-    left : (a b : ℕ) → b ≤ a → (a - b) + (b - a) ≡ a - b
-    left a b l = omega arith
-
-    right' : (a b : ℕ) → a < b → b ≡ a + (b - a)
-    right' a b l = omega arith
-
-    left' : (a b : ℕ) → b ≤ a → a ≡ b + (a - b)
-    left' a b l = omega arith
-
-    sum : (p q r g : ℕ) → q ≡ p + r → (p ≡ q + g) ⊎ (q ≡ p + g) → r ≡ g
-    sum p q r g e (inl h) = omega arith
-    sum p q r g e (inr h) = omega arith
-
-    less : (a b k u g : ℕ) → b ≡ a + k → (a * u ≡ b * u + g) ⊎ (b * u ≡ a * u + g) → k * u ≡ g
-    less a b k u g e h = sum (a * u) (b * u) (k * u) g (ap (λ (n : ℕ). n * u) e ∙ add-mul a k u) h
-
-    flip : (p q g : ℕ) → (p ≡ q + g) ⊎ (q ≡ p + g) → (q ≡ p + g) ⊎ (p ≡ q + g)
-    flip p q g (inl h) = inr h
-    flip p q g (inr h) = inl h
-
-    more : (a b k u g : ℕ) → a ≡ b + k → (a * u ≡ b * u + g) ⊎ (b * u ≡ a * u + g) → k * u ≡ g
-    more a b k u g e h = sum (b * u) (a * u) (k * u) g (ap (λ (n : ℕ). n * u) e ∙ add-mul b k u) (flip (a * u) (b * u) g h)
-
-shape-pp : (a b c d p q g : ℕ) → a ≡ p → b ≡ 0 → c ≡ q → d ≡ 0 → (a + d ≡ b + c + g) ⊎ (b + c ≡ a + d + g) → (p ≡ q + g) ⊎ (q ≡ p + g)
-shape-pp a b c d p q g e f h i (inl k) = inl (omega arith)
-shape-pp a b c d p q g e f h i (inr k) = inr (omega arith)
-
-shape-nn : (a b c d p q g : ℕ) → a ≡ 0 → b ≡ p → c ≡ 0 → d ≡ q → (a + d ≡ b + c + g) ⊎ (b + c ≡ a + d + g) → (p ≡ q + g) ⊎ (q ≡ p + g)
-shape-nn a b c d p q g e f h i (inl k) = inr (omega arith)
-shape-nn a b c d p q g e f h i (inr k) = inl (omega arith)
-
-shape-pn : (a b c d p q g : ℕ) → a ≡ p → b ≡ 0 → c ≡ 0 → d ≡ q → (a + d ≡ b + c + g) ⊎ (b + c ≡ a + d + g) → g ≡ p + q
-shape-pn a b c d p q g e f h i (inl k) = omega arith
-shape-pn a b c d p q g e f h i (inr k) = omega arith
-
-shape-np : (a b c d p q g : ℕ) → a ≡ 0 → b ≡ p → c ≡ q → d ≡ 0 → (a + d ≡ b + c + g) ⊎ (b + c ≡ a + d + g) → g ≡ p + q
-shape-np a b c d p q g e f h i (inl k) = omega arith
-shape-np a b c d p q g e f h i (inr k) = omega arith
+    part : (a b : ℕ) → a * u - b * u ≡ (a - b) * u
+    part a b = ap₂ _-_ (mul-comm a u) (mul-comm b u) ∙ sym (mul-comm (a - b) u ∙ mul-sub u a b)
 
 pub gap-apart : (x y : ℤ) → natAbs x ≤ 2 ^ 15 → natAbs y ≤ 2 ^ 15 → gap (ofInt binary64 x) (ofInt binary64 y) ≡ apart x y * unit
 gap-apart (pos a) (pos b) h k =
@@ -83,26 +49,41 @@ gap-apart (pos a) (pos b) h k =
     let Y = ofInt binary64 (pos b) in
     let i = ofInt-pos a (le-trans h (lit≤ tt)) in
     let j = ofInt-pos b (le-trans k (lit≤ tt)) in
-    difference a b unit (gap X Y) (shape-pp (plus X) (minus X) (plus Y) (minus Y) (a * unit) (b * unit) (gap X Y) (plus-pos X (i .sign-is) ∙ i .mag-is) (minus-pos X (i .sign-is)) (plus-pos Y (j .sign-is) ∙ j .mag-is) (minus-pos Y (j .sign-is)) (gap-is X Y))
+    gap-by X Y (plus-pos X (i .sign-is) ∙ i .mag-is) (minus-pos X (i .sign-is)) (plus-pos Y (j .sign-is) ∙ j .mag-is) (minus-pos Y (j .sign-is)) ∙ both (a * unit) (b * unit) ∙ same-sign a b unit
+  where
+    both : (p q : ℕ) → (p + 0 - (0 + q)) + (0 + q - (p + 0)) ≡ (p - q) + (q - p)
+    both p q = omega arith
 gap-apart (pos a) (negsuc b) h k =
     let X = ofInt binary64 (pos a) in
     let Y = ofInt binary64 (negsuc b) in
     let i = ofInt-pos a (le-trans h (lit≤ tt)) in
     let j = ofInt-neg b (le-trans k (lit≤ tt)) in
-    shape-pn (plus X) (minus X) (plus Y) (minus Y) (a * unit) (suc b * unit) (gap X Y) (plus-pos X (i .sign-is) ∙ i .mag-is) (minus-pos X (i .sign-is)) (plus-neg Y (j .sign-is)) (minus-neg Y (j .sign-is) ∙ j .mag-is) (gap-is X Y) ∙ sym (add-mul a (suc b) unit)
+    gap-by X Y (plus-pos X (i .sign-is) ∙ i .mag-is) (minus-pos X (i .sign-is)) (plus-neg Y (j .sign-is)) (minus-neg Y (j .sign-is) ∙ j .mag-is)
+    ∙ both (a * unit) (suc b * unit) ∙ sym (add-mul a (suc b) unit)
+  where
+    both : (p q : ℕ) → (p + q - (0 + 0)) + (0 + 0 - (p + q)) ≡ p + q
+    both p q = omega arith
 gap-apart (negsuc a) (pos b) h k =
     let X = ofInt binary64 (negsuc a) in
     let Y = ofInt binary64 (pos b) in
     let i = ofInt-neg a (le-trans h (lit≤ tt)) in
     let j = ofInt-pos b (le-trans k (lit≤ tt)) in
-    shape-np (plus X) (minus X) (plus Y) (minus Y) (suc a * unit) (b * unit) (gap X Y) (plus-neg X (i .sign-is)) (minus-neg X (i .sign-is) ∙ i .mag-is) (plus-pos Y (j .sign-is) ∙ j .mag-is) (minus-pos Y (j .sign-is)) (gap-is X Y) ∙ sym (add-mul (suc a) b unit)
+    gap-by X Y (plus-neg X (i .sign-is)) (minus-neg X (i .sign-is) ∙ i .mag-is) (plus-pos Y (j .sign-is) ∙ j .mag-is) (minus-pos Y (j .sign-is))
+    ∙ both (suc a * unit) (b * unit) ∙ sym (add-mul (suc a) b unit)
+  where
+    both : (p q : ℕ) → (0 + 0 - (p + q)) + (p + q - (0 + 0)) ≡ p + q
+    both p q = omega arith
 gap-apart (negsuc a) (negsuc b) h k =
     let X = ofInt binary64 (negsuc a) in
     let Y = ofInt binary64 (negsuc b) in
     let i = ofInt-neg a (le-trans h (lit≤ tt)) in
     let j = ofInt-neg b (le-trans k (lit≤ tt)) in
-    difference (suc a) (suc b) unit (gap X Y) (shape-nn (plus X) (minus X) (plus Y) (minus Y) (suc a * unit) (suc b * unit) (gap X Y) (plus-neg X (i .sign-is)) (minus-neg X (i .sign-is) ∙ i .mag-is) (plus-neg Y (j .sign-is)) (minus-neg Y (j .sign-is) ∙ j .mag-is) (gap-is X Y)) ∙ ap (λ (n : ℕ). n * unit) (less a b)
+    gap-by X Y (plus-neg X (i .sign-is)) (minus-neg X (i .sign-is) ∙ i .mag-is) (plus-neg Y (j .sign-is)) (minus-neg Y (j .sign-is) ∙ j .mag-is)
+    ∙ both (suc a * unit) (suc b * unit) ∙ same-sign (suc a) (suc b) unit ∙ ap (λ (n : ℕ). n * unit) (less a b)
   where
+    both : (p q : ℕ) → (0 + q - (p + 0)) + (p + 0 - (0 + q)) ≡ (p - q) + (q - p)
+    both p q = omega arith
+
     less : (a b : ℕ) → (suc a - suc b) + (suc b - suc a) ≡ (a - b) + (b - a)
     less a b = omega arith
 
@@ -118,10 +99,7 @@ squares-squared no-channel = sym (zero-mul (unit * unit))
 squares-squared (channel {x} {y} {xs} {ys} h k c) =
     ap (λ (n : ℕ). n * n + squares (gaps (floats xs) (floats ys))) (gap-apart x y h k)
     ∙ ap (λ (n : ℕ). apart x y * unit * (apart x y * unit) + n) (squares-squared c)
-    ∙ shape (apart x y) (squared xs ys) unit
-  where
-    shape : (f s u : ℕ) → f * u * (f * u) + s * (u * u) ≡ (f * f + s) * (u * u)
-    shape f s u = omega arith
+    ∙ ringℕ (apart x y ∷ squared xs ys ∷ unit ∷ []) (search poly depth 30) done
 
 pub near-floats : {xs ys : Frame} → Pair xs ys → Near (floats xs) (floats ys)
 near-floats no-channel = no-more
@@ -143,29 +121,12 @@ far-gap a b c H u t e h k i j = omega arith
 
 -- the size of a centre
 mag-gap : (x c : Float) → mag c ≤ mag x + gap x c
-mag-gap x c = go (sign x) (sign c) refl refl
+unfolding gap
+mag-gap x c = go (sign c) refl
   where
-    pp : (a b c d p q g : ℕ) → a ≡ p → b ≡ 0 → c ≡ q → d ≡ 0 → (a + d ≡ b + c + g) ⊎ (b + c ≡ a + d + g) → q ≤ p + g
-    pp a b c d p q g e f h i (inl k) = omega arith
-    pp a b c d p q g e f h i (inr k) = omega arith
-
-    nn : (a b c d p q g : ℕ) → a ≡ 0 → b ≡ p → c ≡ 0 → d ≡ q → (a + d ≡ b + c + g) ⊎ (b + c ≡ a + d + g) → q ≤ p + g
-    nn a b c d p q g e f h i (inl k) = omega arith
-    nn a b c d p q g e f h i (inr k) = omega arith
-
-    pn : (a b c d p q g : ℕ) → a ≡ p → b ≡ 0 → c ≡ 0 → d ≡ q → (a + d ≡ b + c + g) ⊎ (b + c ≡ a + d + g) → q ≤ p + g
-    pn a b c d p q g e f h i (inl k) = omega arith
-    pn a b c d p q g e f h i (inr k) = omega arith
-
-    np : (a b c d p q g : ℕ) → a ≡ 0 → b ≡ p → c ≡ q → d ≡ 0 → (a + d ≡ b + c + g) ⊎ (b + c ≡ a + d + g) → q ≤ p + g
-    np a b c d p q g e f h i (inl k) = omega arith
-    np a b c d p q g e f h i (inr k) = omega arith
-
-    go : (s t : Bool) → sign x ≡ s → sign c ≡ t → mag c ≤ mag x + gap x c
-    go false false e f = pp (plus x) (minus x) (plus c) (minus c) (mag x) (mag c) (gap x c) (plus-pos x e) (minus-pos x e) (plus-pos c f) (minus-pos c f) (gap-is x c)
-    go true true e f = nn (plus x) (minus x) (plus c) (minus c) (mag x) (mag c) (gap x c) (plus-neg x e) (minus-neg x e) (plus-neg c f) (minus-neg c f) (gap-is x c)
-    go false true e f = pn (plus x) (minus x) (plus c) (minus c) (mag x) (mag c) (gap x c) (plus-pos x e) (minus-pos x e) (plus-neg c f) (minus-neg c f) (gap-is x c)
-    go true false e f = np (plus x) (minus x) (plus c) (minus c) (mag x) (mag c) (gap x c) (plus-neg x e) (minus-neg x e) (plus-pos c f) (minus-pos c f) (gap-is x c)
+    go : (t : Bool) → sign c ≡ t → mag c ≤ mag x + gap x c
+    go false f = omega (arith, mag-parts x, plus-pos c f, minus-pos c f)
+    go true f = omega (arith, mag-parts x, plus-neg c f, minus-neg c f)
 
 centre-le : (m x g H u t : ℕ) → u ≡ 2 ^ 36 * t → m ≤ x + g → x ≤ 2 ^ 16 * u → g ≤ H + 6 * t → H ≤ 2 ^ 15 * u → m ≤ 2 ^ 17 * u
 centre-le m x g H u t e h k i j = omega arith
@@ -247,11 +208,5 @@ cell-frames {d} {t} {τ} S ys zs c c' e l =
     (subst (λ (w : List ℤ). Under H (floats zs) (map (centre (sideAt d t 0)) w)) (sym e) (under-around H (around (sideAt d t 0) s c))) in
     whole (squared ys zs) τ unit unit-pos (subst (λ (n : ℕ). squared ys zs * (unit * unit) < n * n + unit * unit) (S .is .mag-is) (subst (λ (n : ℕ). n < mag t * mag t + unit * unit) (squares-squared c) k))
   where
-    shape : (τ u : ℕ) → τ * u * (τ * u) + u * u ≡ (τ * τ + 1) * (u * u)
-    shape τ u = omega arith
-
-    last : (N a : ℕ) → N < a + 1 → N ≤ a
-    last N a h = omega arith
-
     whole : (N τ u : ℕ) → 0 < u → N * (u * u) < τ * u * (τ * u) + u * u → N ≤ τ * τ
-    whole N τ u U h = last N (τ * τ) (lt-of-mul-lt-mul-right (u * u) (subst (λ (n : ℕ). N * (u * u) < n) (shape τ u) h))
+    whole N τ u U h = let k : N < τ * τ + 1 = lt-of-mul-lt-mul-right (u * u) (omega arith) in omega arith

@@ -11,7 +11,7 @@ use Rattle.hyperparams.specs.declared.Params.{Params}
 use Rattle.hyperparams.specs.declared.Refusal.the-variants.{MinPoints, Tolerance, Slack, ToleranceDomain, SlackDomain, Channels, Points, Results, Work}
 use Rattle.hyperparams.specs.declared.Checked.{Checked}
 use Rattle.hyperparams.specs.declared.Checked.the-variants.{Valid, Refused}
-use Rattle.hyperparams.specs.Params.{float, goodTolerance, slackPower, appxTolerance, workWords, maxFrames, validOf, checkedOf}
+use Rattle.hyperparams.specs.Params.{float, goodTolerance, slackPower, appxTolerance, workWords, maxFrames, maxPower, validOf, checkedOf}
 use Rattle.hyperparams.specs.Accepted.{conditions, firstRow, refusals, checked-rows}
 use Rattle.hyperparams.specs.Tolerance.{wholeOr0, some-good, none-good}
 
@@ -27,7 +27,7 @@ pub record Settled (p : Params) (t s : ℕ) : Type 0 where
   pub t-is : t ≡ wholeOr0 (p .tolerance)
   pub t-some : t ≡ 0 → ⊥
   pub s-is : s ≡ slackPower (p .slack)
-  pub s-low : s ≤ 10
+  pub s-low : s ≤ maxPower
 
 -- rows 1 to 7 do not apply
 pub record Framed (p : Params) (t s points : ℕ) : Type 0 where
@@ -40,8 +40,8 @@ pub record Framed (p : Params) (t s points : ℕ) : Type 0 where
 good : {p : Params} {t s : ℕ} → Settled p t s → goodTolerance (p .tolerance) ≡ true
 good {p} h = some-good (p .tolerance) (λ e. h .t-some (h .t-is ∙ e))
 
-low-power : {p : Params} {t s : ℕ} → Settled p t s → slackPower (p .slack) ≤ 10
-low-power h = subst (λ (n : ℕ). n ≤ 10) (h .s-is) (h .s-low)
+low-power : {p : Params} {t s : ℕ} → Settled p t s → slackPower (p .slack) ≤ maxPower
+low-power h = subst (λ (n : ℕ). n ≤ maxPower) (h .s-is) (h .s-low)
 
 module _ (p : Params) (points labels kinds work : ℕ) where
   abbrev answer : Checked
@@ -69,11 +69,11 @@ module _ (p : Params) (points labels kinds work : ℕ) where
   pub row4 : {t : ℕ} → Source p → t ≡ wholeOr0 (p .tolerance) → t ≡ 0 → Refused ToleranceDomain ≡ answer
   row4 h e z = simp (after-three h, none-good (p .tolerance) (sym e ∙ z))
 
-  pub row5 : {t s : ℕ} → Source p → t ≡ wholeOr0 (p .tolerance) → (t ≡ 0 → ⊥) → s ≡ slackPower (p .slack) → 10 < s → Refused SlackDomain ≡ answer
-  row5 h e n q b = simp (after-three h, some-good (p .tolerance) (λ z. n (e ∙ z)), lt-ltb 10 _ (subst (λ (k : ℕ). 10 < k) q b))
+  pub row5 : {t s : ℕ} → Source p → t ≡ wholeOr0 (p .tolerance) → (t ≡ 0 → ⊥) → s ≡ slackPower (p .slack) → maxPower < s → Refused SlackDomain ≡ answer
+  row5 h e n q b = simp (after-three h, some-good (p .tolerance) (λ z. n (e ∙ z)), lt-ltb maxPower _ (subst (λ (k : ℕ). maxPower < k) q b))
 
   after-five : {t s : ℕ} → Settled p t s → answer ≡ after 5
-  after-five h = simp (after-three (h .source), good h, le-ltb 10 _ (low-power h))
+  after-five h = simp (after-three (h .source), good h, le-ltb maxPower _ (low-power h))
 
   pub row6 : {t s : ℕ} → Settled p t s → (p .channels < 1) ⊎ (4 < p .channels) → Refused Channels ≡ answer
   row6 h (inl a) = simp (after-five h, lt-leb _ _ a)

@@ -15,7 +15,7 @@ use Rattle.hyperparams.specs.declared.Refusal.{Refusal}
 use Rattle.hyperparams.specs.declared.Refusal.the-variants.{MinPoints, Tolerance, Slack, ToleranceDomain, SlackDomain, Channels, Points, Results, Work}
 use Rattle.hyperparams.specs.declared.Checked.{Checked}
 use Rattle.hyperparams.specs.declared.Checked.the-variants.{Valid, Refused}
-use Rattle.hyperparams.specs.Params.{float, goodTolerance, slackPower, validOf, workWords, maxFrames, checkedOf, numberOf}
+use Rattle.hyperparams.specs.Params.{float, goodTolerance, slackPower, validOf, workWords, maxFrames, maxPower, checkedOf, numberOf}
 
 -- the conditions of rows 1 to 9 of the table
 abbrev pub conditions : Params → (points labels kinds work : ℕ) → List Bool
@@ -25,7 +25,7 @@ conditions p points labels kinds work =
     ∷ (le (p .tolerance) (float 0)
     ∷ (le (p .slack) (float 0)
     ∷ (not (goodTolerance (p .tolerance))
-    ∷ (ltb 10 (slackPower (p .slack))
+    ∷ (ltb maxPower (slackPower (p .slack))
     ∷ (not (leb 1 (p .channels) && leb (p .channels) 4)
     ∷ ((not (eqb (points % p .channels) 0) || ltb maxFrames frames)
     ∷ ((ltb labels frames || ltb kinds frames)
@@ -115,7 +115,7 @@ pub record Accepted (p : Params) (v : ValidParams) (points labels kinds work : �
   pub settings : v ≡ validOf p
   pub two-points : 2 ≤ p .«min_points»
   pub good-tolerance : T (goodTolerance (p .tolerance))
-  pub low-power : slackPower (p .slack) ≤ 10
+  pub low-power : slackPower (p .slack) ≤ maxPower
   pub some-channels : 1 ≤ p .channels
   pub few-channels : p .channels ≤ 4
   pub whole-frames : points % p .channels ≡ 0
@@ -151,7 +151,7 @@ module _ (p : Params) (points labels kinds work : ℕ) where
         settings = cc (valid .1 f);
         two-points = leb-false (p .«min_points») 1 (f 0);
         good-tolerance = subst T (sym (not-false (goodTolerance (p .tolerance)) (f 3))) tt;
-        low-power = ltb-false 10 (slackPower (p .slack)) (f 4);
+        low-power = ltb-false maxPower (slackPower (p .slack)) (f 4);
         some-channels = leb-true 1 (p .channels) (channels .0);
         few-channels = leb-true (p .channels) 4 (channels .1);
         whole-frames = eqb-true (points % p .channels) 0 (not-false (eqb (points % p .channels) 0) (lengths .0));

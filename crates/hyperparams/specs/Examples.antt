@@ -23,8 +23,8 @@ bySlack x = returned (checkedOf (settings 1 2 (float 1) x) 0 0 0 0)
 abbrev byLengths : (channels points labels kinds work : ℕ) → ℕ
 byLengths channels points labels kinds work = returned (checkedOf (settings channels 2 (float 1) (float 1)) points labels kinds work)
 
--- NaN (case (m)), the infinities, -0, the least positive float, 2.5
-not-whole : map byTolerance (nan ∷ (inf false ∷ (inf true ∷ (fin true 0 (pos 0) ∷ (fin false 1 (negsuc 1073) ∷ (fin false 5 (negsuc 0) ∷ [])))))) ≡ 4 ∷ (4 ∷ (2 ∷ (2 ∷ (4 ∷ (4 ∷ [])))))
+-- NaN (case (m)), the infinities, -0, the least positive float, 2.5, -1
+not-whole : map byTolerance (nan ∷ (inf false ∷ (inf true ∷ (fin true 0 (pos 0) ∷ (fin false 1 (negsuc 1073) ∷ (fin false 5 (negsuc 0) ∷ (fin true 1 (pos 0) ∷ []))))))) ≡ 4 ∷ (4 ∷ (2 ∷ (2 ∷ (4 ∷ (4 ∷ (2 ∷ []))))))
 unfolding checkedOf
 not-whole = refl
 
@@ -36,6 +36,11 @@ whole-tolerances = refl
 slacks : map bySlack (float 1 ∷ (fin false 1 (negsuc 9) ∷ (fin false 1 (negsuc 10) ∷ (fin false 5404319552844595 (negsuc 53) ∷ (nan ∷ (fin true 1 (pos 0) ∷ [])))))) ≡ 0 ∷ (0 ∷ (5 ∷ (5 ∷ (5 ∷ (3 ∷ [])))))
 unfolding checkedOf
 slacks = refl
+
+-- the infinities, -0, the least positive float
+no-slacks : map bySlack (inf false ∷ (inf true ∷ (fin true 0 (pos 0) ∷ (fin false 1 (negsuc 1073) ∷ [])))) ≡ 5 ∷ (3 ∷ (3 ∷ (5 ∷ [])))
+unfolding checkedOf
+no-slacks = refl
 
 powers : map slackPower (float 1 ∷ (fin false 1 (negsuc 9) ∷ (fin false 1 (negsuc 10) ∷ []))) ≡ 0 ∷ (10 ∷ (11 ∷ []))
 unfolding slackPower

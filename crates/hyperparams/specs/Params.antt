@@ -12,6 +12,14 @@ use Rattle.hyperparams.specs.declared.Refusal.the-variants.{MinPoints, T
 use Rattle.hyperparams.specs.declared.Checked.{Checked}
 use Rattle.hyperparams.specs.declared.Checked.the-variants.{Valid, Refused}
 
+-- "0 to 4,096 frames"
+abbrev pub maxFrames : ℕ
+maxFrames = 4096
+
+-- "s from 0 to 10"
+abbrev pub maxPower : ℕ
+maxPower = 10
+
 -- n as a float
 abbrev pub float : ℕ → Float
 float n = ofInt binary64 (pos n)
@@ -35,16 +43,17 @@ abbrev pub slackFrom : ℕ → ℕ → Float → ℕ
 slackFrom zero s x = s
 slackFrom (suc k) s x = let r = slackFrom k (suc s) x in cond (eq x (slackAt s)) s r
 
--- "s from 0 to 10"; 11 where the slack is none of these
+-- the s of the slack, "s from 0 to 10"; 11 where the slack is none of these
 unfoldable pub slackPower : Float → ℕ
 unfolding eq slackAt
-slackPower x = slackFrom 11 0 x
+slackPower x = slackFrom (suc maxPower) 0 x
 
 -- "Extended tolerance = t × (1 + slack)"
 unfoldable pub appxTolerance : Float → Float → Float
 unfolding add mul ofInt
 appxTolerance t slack = mul binary64 t (add binary64 (float 1) slack)
 
+-- AppxDbscanValidParams of the source, with t of "an f64 holding a whole number" and s of "1 divided by 2 to the power s"
 abbrev pub validOf : Params → ValidParams
 validOf p = record {
   channels = p .channels;
@@ -63,10 +72,6 @@ levels s = 1 + s
 abbrev pub workWords : ℕ → ℕ → ℕ
 workWords frames s = frames * (16 + 4 * (levels s + 1))
 
--- "0 to 4,096 frames"
-abbrev pub maxFrames : ℕ
-maxFrames = 4096
-
 -- "The table of refusals (first that applies, top down)", on the settings and the lengths of the slices; "A run is accepted if no refusal's condition holds."
 unfoldable pub checkedOf : Params → (points labels kinds work : ℕ) → Checked
 unfolding goodTolerance slackPower appxTolerance wholeTolerance le ofInt
@@ -78,7 +83,7 @@ checkedOf p points labels kinds work =
     (cond (le (p .tolerance) (float 0)) (Refused Tolerance)
     (cond (le (p .slack) (float 0)) (Refused Slack)
     (cond (not (goodTolerance (p .tolerance))) (Refused ToleranceDomain)
-    (cond (ltb 10 s) (Refused SlackDomain)
+    (cond (ltb maxPower s) (Refused SlackDomain)
     (cond (not (leb 1 d && leb d 4)) (Refused Channels)
     (cond (not (eqb (points % d) 0) || ltb maxFrames frames) (Refused Points)
     (cond (ltb labels frames || ltb kinds frames) (Refused Results)

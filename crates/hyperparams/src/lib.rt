@@ -1,7 +1,7 @@
 // The settings of a run, and the table of refusals.
 ghost use mathlib.Core.Path.{_≡_};
 ghost use Prim.Native.Nat.{_≤_};
-ghost use Rattle.hyperparams.specs.Params.{slackPower, appxTolerance, workWords, maxFrames, checkedOf, numberOf};
+ghost use Rattle.hyperparams.specs.Params.{slackPower, appxTolerance, workWords, maxFrames, maxPower, checkedOf, numberOf};
 ghost use Rattle.hyperparams.specs.Tolerance.{wholeOr0};
 
 // "A frame is 1 to 4 channels", "0 to 4,096 frames", "s from 0 to 10"
@@ -106,9 +106,9 @@ pub fn appx_tolerance(tolerance: f64, slack: f64) -> f64
 // "Work memory (added): unsigned 16-bit words, frames × (16 + 4 × (L + 1)).", "Levels below the root: L = 1 + s."
 pub fn work_words(frames: usize, s: usize) -> usize
     requires frames { ⌜ frames ≤ maxFrames ⌝ }
-    requires s { ⌜ s ≤ 10 ⌝ }
+    requires s { ⌜ s ≤ maxPower ⌝ }
     ensures words { λ r. ⌜ r ≡ workWords frames s ⌝ }
-    ensures bound { λ r. ⌜ r ≤ 262144 ⌝ }
+    ensures bound { λ r. ⌜ r ≤ workWords maxFrames maxPower ⌝ }
 {
     let levels = 1 + s;
     frames * (16 + 4 * (levels + 1))
@@ -150,11 +150,11 @@ pub fn check(p: Params, points: usize, labels: usize, kinds: usize, work: usize)
         return Checked::Refused(Refusal::Work);
     }
     Checked::Valid(ValidParams {
-        channels: channels,
+        channels,
         min_points: p.min_points,
         tolerance: p.tolerance,
         appx_tolerance: appx_tolerance(p.tolerance, p.slack),
-        t: t,
-        s: s,
+        t,
+        s,
     })
 }

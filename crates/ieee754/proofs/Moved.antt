@@ -1,15 +1,15 @@
 -- A significand moved up to 63 or 64 digits, so that an even power of two is left: what `root_bits` needs.
-use mathlib.Core.Path.{_≡_, sym, ap, ap₂, _∙_, subst}
+use mathlib.Core.Path.{_≡_, sym, ap, _∙_, subst}
 use mathlib.Core.Bool.{false}
-use mathlib.Core.Logic.{inl, inr}
+use mathlib.Core.List.{[], _∷_}
 use Prim.Native.Nat.{ℕ, suc, _+_, _-_, _*_, _/_, _%_, _^_, _≤_, _<_}
-use native.Mathlib.Nat.{le-trans, le-of-eq, lt-of-le-of-lt, lt-of-lt-of-le, mul-le-mul-right, mul-lt-mul-of-pos-right, mul-pos, mod-eq-of-lt, not-le-of-lt}
+use native.Mathlib.Nat.{le-trans, le-of-eq, lt-of-le-of-lt, lt-of-lt-of-le, mul-le-mul-right, mul-lt-mul-of-pos-right, mul-pos, mul-mul-mul-comm, mod-eq-of-lt, lt-of-not-le, not-le-of-lt}
 use native.Mathlib.Omega.{arith}
 use lib.Pow.{pow-add, pow-pos, pow-mono, shl-lt}
 use lib.Count.{leadingZeros, leading-top}
 use lib.Ieee.{Float, binary64, toBits, odd}
 use lib.Ieee.Exact.{odd-sign}
-use Rattle.ieee754.specs.Norm.{lt-or-ge}
+use Rattle.ring.specs.Ring.{ringℕ, poly, done}
 use Rattle.ieee754.specs.Steps.{Root, root-from, root-below}
 use Rattle.ieee754.specs.Value.{unit, mag, Is, of-value}
 use Rattle.ieee754.specs.Root.{root}
@@ -31,7 +31,7 @@ module _ {m : ℕ} (f : ℕ) (M : 0 < m) (S : m < 2 ^ 53) where
   top = leading-top 64 m M (omega arith)
 
   pub zeros-from : 11 ≤ zeros
-  zeros-from = go (top .0) (top .1) (elim (lt-or-ge (top .0) 53) [ inl l ↦ l | inr g ↦ absurd (not-le-of-lt S (le-trans (pow-mono g) (top .2))) ])
+  zeros-from = go (top .0) (top .1) (lt-of-not-le (λ g. not-le-of-lt S (le-trans (pow-mono g) (top .2))))
     where
       go : (j : ℕ) → zeros + suc j ≡ 64 → j < 53 → 11 ≤ zeros
       go j e l = omega arith
@@ -85,16 +85,7 @@ module _ {m : ℕ} (f : ℕ) (M : 0 < m) (S : m < 2 ^ 53) where
 
     -- four times the square of the root, in units
     four : 4 * (m * 2 ^ f * 2 ^ 1074) ≡ n * (2 ^ left * 2 ^ left)
-    four =
-        four-square m f
-        ∙ ap (λ (i : ℕ). m * i) (ap (λ (i : ℕ). 2 ^ i) even-left ∙ pow-add 2 (moved + 44) (left + left) ∙ ap₂ (λ (i j : ℕ). i * j) (pow-add 2 moved 44) (pow-add 2 left left))
-        ∙ shape (2 ^ moved) (2 ^ left * 2 ^ left)
-      where
-        shape : (z p : ℕ) → m * (z * 2 ^ 44 * p) ≡ m * z * 2 ^ 44 * p
-        shape z p = omega arith
-
-    square : (t p : ℕ) → t * p * (t * p) ≡ t * t * (p * p)
-    square t p = omega arith
+    four = four-square m f ∙ ap (λ (i : ℕ). m * 2 ^ i) even-left ∙ ringℕ (m ∷ 2 ^ moved ∷ 2 ^ left ∷ []) (search poly depth 30) done
 
     abbrev x : Float
     x = odd 53 false m f 1074
@@ -111,8 +102,8 @@ module _ {m : ℕ} (f : ℕ) (M : 0 < m) (S : m < 2 ^ 53) where
         root-digits x s left (value .good) (value .sign-is) (record { digits = m; places = f; few = S; is = e })
         (lt-of-le-of-lt (le-of-eq e) (lt-of-lt-of-le (shl-lt 53 f S) (pow-mono {i = 53 + f} {j = 2098} (omega arith))))
         digits-from digits-below
-        (le-trans (le-of-eq (square s (2 ^ left))) (le-trans (mul-le-mul-right (2 ^ left * 2 ^ left) (whole .0)) (le-of-eq (sym v))))
-        (lt-of-le-of-lt (le-of-eq v) (lt-of-lt-of-le (mul-lt-mul-of-pos-right (whole .1) (mul-pos (pow-pos left) (pow-pos left))) (le-of-eq (sym (square (s + 1) (2 ^ left))))))
+        (le-trans (le-of-eq (mul-mul-mul-comm s (2 ^ left) s (2 ^ left))) (le-trans (mul-le-mul-right (2 ^ left * 2 ^ left) (whole .0)) (le-of-eq (sym v))))
+        (lt-of-le-of-lt (le-of-eq v) (lt-of-lt-of-le (mul-lt-mul-of-pos-right (whole .1) (mul-pos (pow-pos left) (pow-pos left))) (le-of-eq (sym (mul-mul-mul-comm (s + 1) (2 ^ left) (s + 1) (2 ^ left))))))
 
     pub bits-of-root : left * 2 ^ 52 + (s + 1) / 2 ≡ toBits binary64 (root (odd 53 false m f 1074))
     bits-of-root = sym (bits-are (root x) ((s + 1) / 2) left root-is (omega (arith, digits-from)) (omega (arith, digits-below)))

@@ -1,8 +1,12 @@
 -- A step to more digits of a whole root, for any base: one division, and at most one correction. What `more_digits` and `all_digits` need.
 use mathlib.Core.Path.{_≡_, sym, ap, _∙_, subst}
+use mathlib.Core.List.{[], _∷_}
 use Prim.Native.Nat.{ℕ, zero, suc, _+_, _-_, _*_, _/_, _%_, _^_, _≤_, _<_}
 use native.Mathlib.Nat.{le-trans, mul-le-mul, mul-le-mul-right, lt-of-mul-lt-mul-right, div-add-mod', div-div-eq-div-mul, mod-lt}
 use native.Mathlib.Omega.{arith}
+use lib.IntN.{pos}
+use Rattle.ring.specs.Ring.{ringℕ, poly, done}
+use Rattle.ring.specs.Order.{equalℕ, diffℕ, _⊕_, _⊙_}
 use Rattle.ieee754.specs.Steps.{Root, Room, root-from, root-below}
 
 -- ---- h is s² and the rest r; r b + a divided by 2 s is q, and u is left
@@ -16,17 +20,11 @@ module _ (h s b a c r q u : ℕ) (M : Room s b a c) (e : h ≡ s * s + r) (d : r
 
   -- n = (s b + q)² + (u b + c - q²)
   sum : h * (b * b) + a * b + c + q * q ≡ (s * b + q) * (s * b + q) + u * b + c
-  sum =
-      let x : h * (b * b) ≡ (s * s + r) * (b * b) = ap (λ (z : ℕ). z * (b * b)) e in
-      let y : (r * b + a) * b ≡ (q * (2 * s) + u) * b = ap (λ (z : ℕ). z * b) d in
-      omega arith
+  sum = equalℕ (h ∷ s ∷ b ∷ a ∷ c ∷ r ∷ q ∷ u ∷ []) (pos (b * b) ⊙ diffℕ e ⊕ pos b ⊙ diffℕ d) (search poly depth 30) done
 
   -- s b + q is never too small
   right : u < 2 * s → q * q ≤ u * b + c → Root (h * (b * b) + a * b + c) (s * b + q)
-  right U k =
-      let x = sum in
-      let y : suc u * b ≤ 2 * s * b = mul-le-mul-right b U in
-      omega arith
+  right U k = omega (arith, sum, mul-le-mul-right b U)
 
 -- and where it is too large, one less is right
 one-less : (h s b a c r q u : ℕ) → Room s b a c → h ≡ s * s + r → r * b + a ≡ q * (2 * s) + u → q ≤ b → u * b + c < q * q → (0 < q) × Root (h * (b * b) + a * b + c) (s * b + q - 1)
@@ -92,10 +90,7 @@ room l h {n} {s} R k =
 pub joined : (b m s : ℕ) → Root (m / (b * b) * (b * b) + m / b % b * b + m % b) s → Root m s
 joined b m s R = subst (λ (n : ℕ). Root n s) whole R
   where
-    shape : (x y z b : ℕ) → x * (b * b) + y * b + z ≡ (x * b + y) * b + z
-    shape x y z b = omega arith
-
     whole : m / (b * b) * (b * b) + m / b % b * b + m % b ≡ m
     whole =
         ap (λ (x : ℕ). x * (b * b) + m / b % b * b + m % b) (sym (div-div-eq-div-mul m b b))
-        ∙ shape (m / b / b) (m / b % b) (m % b) b ∙ ap (λ (x : ℕ). x * b + m % b) (div-add-mod' (m / b) b) ∙ div-add-mod' m b
+        ∙ ringℕ (m / b / b ∷ m / b % b ∷ m % b ∷ b ∷ []) (search poly depth 30) done ∙ ap (λ (x : ℕ). x * b + m % b) (div-add-mod' (m / b) b) ∙ div-add-mod' m b

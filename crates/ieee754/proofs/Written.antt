@@ -2,12 +2,13 @@
 use mathlib.Core.Path.{_≡_, sym, ap, ap₂, _∙_, subst}
 use mathlib.Core.Logic.{_⊎_, inl, inr}
 use mathlib.Core.Bool.{Bool, false, cond}
+use mathlib.Core.List.{[], _∷_}
 use Prim.Native.Nat.{ℕ, _+_, _-_, _*_, _/_, _^_, _≤_, _<_}
-use native.Mathlib.Nat.{mul-le-mul-right, mul-lt-mul-of-pos-right, mul-div-cancel, mul-assoc, eq-or-lt-of-le}
-use native.Mathlib.Omega.{arith}
+use native.Mathlib.Nat.{mul-le-mul-right, mul-lt-mul-of-pos-right, mul-div-cancel, zero-add, eq-or-lt-of-le}
 use lib.Dec.{lit<, lit≤}
-use lib.Pow.{pow-add, pow-pos}
+use lib.Pow.{pow-pos}
 use lib.Ieee.{Float, nan, inf, fin, binary64, size, toBits}
+use Rattle.ring.specs.Ring.{ringℕ, poly, done}
 use Rattle.ieee754.specs.Value.{unit, mag, sign, Good, Is}
 use Rattle.ieee754.specs.RootDigits.{dropped}
 
@@ -16,19 +17,12 @@ abbrev written : Bool → ℕ → ℕ
 written t n = cond t (2 ^ 63) 0 + (size n - 53) * 2 ^ 52 + n / 2 ^ (size n - 53)
 
 written-is : (q k : ℕ) → 2 ^ 52 ≤ q → q < 2 ^ 53 → written false (q * 2 ^ k) ≡ k * 2 ^ 52 + q
-written-is q k lo hi = rw (dropped (q * 2 ^ k) k (mul-le-mul-right (2 ^ k) lo) (mul-lt-mul-of-pos-right hi (pow-pos k)), mul-div-cancel q (pow-pos k)) (none (k * 2 ^ 52) q)
-  where
-    none : (a b : ℕ) → 0 + a + b ≡ a + b
-    none a b = omega arith
+written-is q k lo hi = rw (dropped (q * 2 ^ k) k (mul-le-mul-right (2 ^ k) lo) (mul-lt-mul-of-pos-right hi (pow-pos k)), mul-div-cancel q (pow-pos k)) (ap (λ (n : ℕ). n + q) (zero-add (k * 2 ^ 52)))
 
 -- where rounding carried into a 54th digit, the exponent's field is one higher
 written-carry : (k : ℕ) → written false (2 ^ 53 * 2 ^ k) ≡ k * 2 ^ 52 + 2 ^ 53
 written-carry k =
-    ap (λ (n : ℕ). written false n) (mul-assoc (2 ^ 52) 2 (2 ^ k) ∙ ap (λ (n : ℕ). 2 ^ 52 * n) (sym (pow-add 2 1 k)))
-    ∙ written-is (2 ^ 52) (1 + k) (lit≤ tt) (lit< tt) ∙ last k
-  where
-    last : (k : ℕ) → (1 + k) * 2 ^ 52 + 2 ^ 52 ≡ k * 2 ^ 52 + 2 ^ 53
-    last k = omega arith
+    ap (written false) (ringℕ (2 ^ k ∷ []) (search poly depth 30) done) ∙ written-is (2 ^ 52) (1 + k) (lit≤ tt) (lit< tt) ∙ ringℕ (k ∷ []) (search poly depth 30) done
 
 both : (q k : ℕ) → 2 ^ 52 ≤ q → (q ≡ 2 ^ 53) ⊎ (q < 2 ^ 53) → written false (q * 2 ^ k) ≡ k * 2 ^ 52 + q
 both q k lo (inl e) = subst (λ (p : ℕ). written false (p * 2 ^ k) ≡ k * 2 ^ 52 + p) (sym e) (written-carry k)

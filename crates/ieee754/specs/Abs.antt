@@ -1,11 +1,16 @@
 -- Errors in absolute terms, of one operation and of a cell's index and centre: in `tiny`, 2 ^ -36.
-use mathlib.Core.Path.{_≡_}
-use Prim.Native.Nat.{ℕ, _+_, _*_, _^_, _≤_, _<_}
-use native.Mathlib.Nat.{le-trans, le-of-eq, mul-le-mul-right, add-assoc, le-of-mul-le-mul-right}
+use mathlib.Core.Path.{_≡_, sym}
+use mathlib.Core.List.{List, [], _∷_}
+use Prim.Native.Nat.{ℕ, _+_, _-_, _*_, _^_, _≤_}
+use native.Mathlib.Nat.{le-trans, le-of-eq, mul-pos, add-assoc, le-of-mul-le-mul-left}
 use native.Mathlib.Omega.{arith}
+use lib.IntN.{pos}
+use lib.Dec.{lit<}
 use lib.Ieee.{Float}
+use Rattle.ring.specs.Ring.{poly, done}
+use Rattle.ring.specs.Order.{belowℕ, num, slackℕ, _⊞_, _⊠_, nil, diffℕ, _⊕_, _⊙_}
 use Rattle.ieee754.specs.Value.{unit, unit-pos, tiny, unit-tiny, tiny-large, Close}
-use Rattle.ieee754.specs.Ops.{plus, minus, Approx, close-cancel}
+use Rattle.ieee754.specs.Ops.{plus, minus, Approx}
 
 shrink : (p q e T : ℕ) → 2 ^ 53 * p ≤ 2 ^ 53 * q + e → e ≤ 2 ^ 53 * T → p ≤ q + T
 shrink p q e T c h = omega arith
@@ -33,36 +38,20 @@ pub record Indexed (C H S D Y M i : ℕ) : Type 0 where
   pub near : i * unit ≤ Y + unit
   pub centre : Close M (i * unit * S) unit
 
-quot-a : (D Y S i u : ℕ) → 0 < u → S ≤ 2 ^ 16 * u → 2 ^ 53 * (D * u) ≤ 2 ^ 53 * (Y * S) + D * u + 2 ^ 52 * S → Y ≤ i * u → 2 ^ 53 * D ≤ 2 ^ 53 * (i * S) + (D + 2 ^ 68)
-quot-a D Y S i u U s c a = let p : Y * S ≤ i * u * S = mul-le-mul-right S a in le-of-mul-le-mul-right {k = u} (omega arith) U
-
-quot-b : (D Y S i u : ℕ) → 0 < u → S ≤ 2 ^ 16 * u → 2 ^ 53 * (Y * S) ≤ 2 ^ 53 * (D * u) + D * u + 2 ^ 52 * S → i * u ≤ Y + u → 2 ^ 53 * (i * S) ≤ 2 ^ 53 * (D + S) + (D + 2 ^ 68)
-quot-b D Y S i u U s c a = let p : i * u * S ≤ (Y + u) * S = mul-le-mul-right S a in le-of-mul-le-mul-right {k = u} (omega arith) U
-
-two-tiny : (D t : ℕ) → 2 ^ 60 ≤ t → D ≤ 2 ^ 53 * t → D + 2 ^ 68 ≤ 2 ^ 53 * (2 * t)
-two-tiny D t l h = omega arith
-
-three-tiny : (n t : ℕ) → 2 ^ 60 ≤ t → n ≤ 2 ^ 54 * t → n + 2 ^ 52 * 1 ≤ 2 ^ 53 * (3 * t)
-three-tiny n t l h = omega arith
-
-D-bound : (C D H u t : ℕ) → u ≡ 2 ^ 36 * t → C ≤ 2 ^ 16 * u → D + H ≤ C + t → D ≤ 2 ^ 53 * t
-D-bound C D H u t e c o = omega arith
-
-n-bound : (n D S u t : ℕ) → u ≡ 2 ^ 36 * t → S ≤ 2 ^ 16 * u → D ≤ 2 ^ 53 * t → n ≤ D + S + 2 * t → n ≤ 2 ^ 54 * t
-n-bound n D S u t e s d h = omega arith
-
-centre-form : (M i S u : ℕ) → Close M (i * u * S) u → Close M (i * S * u) (1 * u)
-centre-form M i S u c = omega arith
-
-whole-box : (C H S D M n t : ℕ) → S ≡ 2 * H → C ≤ D + H + t → D + H ≤ C + t → D ≤ n + 2 * t → n ≤ D + S + 2 * t → M * 1 ≤ n + 3 * t → n ≤ M * 1 + 3 * t
-    → (C ≤ M + H + 6 * t) × (M ≤ C + H + 6 * t)
-whole-box C H S D M n t h a b c d e f = omega arith
-
 -- the coordinate lies within half the side of the centre, but for 6 * 2 ^ -36
 pub box : (C H S D Y M i : ℕ) → Indexed C H S D Y M i → (C ≤ M + H + 6 * tiny) × (M ≤ C + H + 6 * tiny)
-box C H S D Y M i x =
-    let b = D-bound C D H unit tiny unit-tiny (x .coordinate) (x .over) in
-    let hi : D ≤ i * S + 2 * tiny = shrink D (i * S) (D + 2 ^ 68) (2 * tiny) (quot-a D Y S i unit unit-pos (x .side) (x .quotient .1) (x .above)) (two-tiny D tiny tiny-large b) in
-    let lo : i * S ≤ D + S + 2 * tiny = shrink (i * S) (D + S) (D + 2 ^ 68) (2 * tiny) (quot-b D Y S i unit unit-pos (x .side) (x .quotient .0) (x .near)) (two-tiny D tiny tiny-large b) in
-    let m = close-abs M (i * S) 1 (3 * tiny) (three-tiny (i * S) tiny tiny-large (n-bound (i * S) D S unit tiny unit-tiny (x .side) b lo)) (close-cancel M (i * S) 1 unit unit-pos (centre-form M i S unit (x .centre))) in
-    whole-box C H S D M (i * S) tiny (x .half) (x .under) (x .over) hi lo (m .0) (m .1)
+box C H S D Y M i x = (
+  le-of-mul-le-mul-left {k = 2 ^ 106 * unit} (belowℕ ρ
+      (num (2 ^ 53) ⊠ slackℕ (x .centre .1) ⊞ num ((2 ^ 106 - 2 ^ 53) * S) ⊠ slackℕ (x .above) ⊞ num (2 ^ 53 - 1) ⊠ slackℕ (x .quotient .1) ⊞ num (2 ^ 106 * unit) ⊠ slackℕ (x .under)
+      ⊞ num ((2 ^ 54 - 1) * unit) ⊠ (slackℕ (x .over) ⊞ slackℕ (x .coordinate)) ⊞ num ((2 ^ 53 - 1) * 2 ^ 52) ⊠ slackℕ (x .side) ⊞ num (2 ^ 62 * unit) ⊠ slackℕ tiny-large
+      ⊞ num ((2 ^ 54 - 1) * (unit * H) + (5 * 2 ^ 106 - (2 ^ 54 - 1) * (2 ^ 52 + 1) - 2 ^ 62) * (tiny * unit) + (2 ^ 122 - 2 ^ 121 - 2 ^ 105 + 2 ^ 68) * unit)
+      ⊞ nil (pos ((2 ^ 54 - 1) * 2 ^ 16 * unit) ⊙ diffℕ (sym unit-tiny))) (search poly depth 99 fits 9999) done) (mul-pos (lit< tt) unit-pos),
+  le-of-mul-le-mul-left {k = 2 ^ 106 * unit} (belowℕ ρ
+      (num (2 ^ 53) ⊠ slackℕ (x .centre .0) ⊞ num ((2 ^ 106 + 2 ^ 53) * S) ⊠ slackℕ (x .near) ⊞ num (2 ^ 53 + 1) ⊠ slackℕ (x .quotient .0) ⊞ num (2 ^ 106 * unit) ⊠ slackℕ (x .over)
+      ⊞ num ((2 ^ 54 + 1) * unit) ⊠ (slackℕ (x .over) ⊞ slackℕ (x .coordinate)) ⊞ num (2 ^ 53 * unit + (2 ^ 53 + 1) * 2 ^ 52) ⊠ slackℕ (x .side) ⊞ num (2 ^ 62 * unit) ⊠ slackℕ tiny-large
+      ⊞ num ((2 ^ 54 + 1) * (unit * H) + (5 * 2 ^ 106 - (2 ^ 54 + 1) * (2 ^ 52 + 1) - 2 ^ 105 - 2 ^ 62) * (tiny * unit) + (2 ^ 122 - 2 ^ 121 - 2 ^ 105 - 2 ^ 68) * unit)
+      ⊞ nil (pos (2 ^ 106 * unit) ⊙ diffℕ (sym (x .half)) ⊕ pos (((2 ^ 54 + 1) * 2 ^ 16 + 2 ^ 69) * unit) ⊙ diffℕ (sym unit-tiny))) (search poly depth 99 fits 9999) done) (mul-pos (lit< tt) unit-pos),
+)
+  where
+    ρ : List ℕ
+    ρ = C ∷ H ∷ S ∷ D ∷ Y ∷ M ∷ i ∷ unit ∷ tiny ∷ []

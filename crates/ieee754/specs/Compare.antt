@@ -10,7 +10,7 @@ use borrow.Author.Tests.{lt-ltb, le-ltb, lt-leb, le-leb, eq-eqb, ne-eqb}
 use lib.Dec.{leb, ltb, eqb}
 use lib.Ieee.{Float, nan, inf, fin, up, down, below, level, lt, le}
 use lib.Ieee.Fits.{down-pos}
-use Rattle.ieee754.specs.Norm.{lt-or-ge}
+use Rattle.ring.specs.Nat.{lt-or-ge}
 use Rattle.ieee754.specs.Value.{unit, unit-pos, mag, sign, Good}
 use Rattle.ieee754.specs.Ops.{plus, minus, cross, cross'}
 

@@ -1,8 +1,9 @@
 -- The numbers of units that the format holds, `Rep`: where an operation is exact, and that rounding keeps their order.
 use mathlib.Core.Path.{_≡_, refl, sym, ap, _∙_, subst}
 use mathlib.Core.Bool.{Bool, true, false, _&&_}
+use mathlib.Core.List.{[], _∷_}
 use Prim.Native.Nat.{ℕ, zero, suc, _+_, _-_, _*_, _/_, _%_, _^_, _≤_, _<_}
-use native.Mathlib.Nat.{lt-of-le-of-lt, lt-of-lt-of-le, mul-le-mul-right, mul-pos, mul-assoc, mul-one, mul-div-cancel, div-lt-iff-lt-mul, mul-lt-mul-of-pos-right, le-of-eq, zero-mul}
+use native.Mathlib.Nat.{lt-of-le-of-lt, lt-of-lt-of-le, mul-le-mul-right, mul-pos, mul-assoc, mul-right-comm, mul-one, mul-div-cancel, div-lt-iff-lt-mul, mul-lt-mul-of-pos-right, le-of-eq, zero-mul}
 use native.Mathlib.Omega.{arith}
 use lib.IntN.{pos, negsuc}
 use lib.Dec.{T, leb, ltb, eqb, leb→le, ltb→lt, lit<}
@@ -13,7 +14,9 @@ use lib.Ieee.Exact.{HasValue, round-exact}
 use lib.Ieee.Back.{round-whole}
 use lib.Ieee.Order.{round-mono}
 use lib.Ieee.Scale.{round-same, finite}
-use Rattle.ieee754.specs.Norm.{pow-le-back, pow-split}
+use Rattle.ring.specs.Ring.{ringℕ, poly, done}
+use Rattle.ring.specs.Order.{equalℕ, diffℕ, _⊙_}
+use Rattle.ring.specs.Nat.{exponent-le, align}
 use Rattle.ieee754.specs.Value.{unit, unit-pos, mag, sign, Good, Is, of-value, round-near}
 use Rattle.ieee754.specs.Ops.{plus, minus, plus-pos, minus-pos, plus-neg, SumOf, above, below, near-units, mul-of, div-of}
 use Rattle.ieee754.specs.Compare.{le-is}
@@ -82,13 +85,10 @@ div-exact x y n g k p h r b =
     (round-rep s n r b)
 
 -- ---- whole numbers
-whole-value : (x : Float) (s : Bool) (n : ℕ) → HasValue x s n 1 → HasValue x s (n * unit) unit
+pub whole-value : (x : Float) (s : Bool) (n : ℕ) → HasValue x s n 1 → HasValue x s (n * unit) unit
 whole-value nan s n h = h
 whole-value (inf t) s n h = h
-whole-value (fin t m e) s n h = (h .0, shape (m * up e) n (down e) unit (h .1))
-  where
-    shape : (a n d u : ℕ) → a * 1 ≡ n * d → a * u ≡ n * u * d
-    shape a n d u h = let k : a * 1 * u ≡ n * d * u = ap (λ (z : ℕ). z * u) h in omega arith
+whole-value (fin t m e) s n h = (h .0, equalℕ (m * up e ∷ n ∷ down e ∷ unit ∷ []) (pos unit ⊙ diffℕ (h .1)) (search poly depth 30) done)
 
 pub ofInt-pos : (n : ℕ) → n ≤ 2 ^ 53 → Is (ofInt binary64 (pos n)) false (n * unit)
 unfolding ofInt
@@ -122,9 +122,9 @@ fits-good (fin s (suc m) (pos k)) f t =
     (record { digits = suc m; places = k + 1074; few = ltb→lt (suc m) (2 ^ 53) (p .0); is = mul-assoc (suc m) (2 ^ k) (2 ^ 1074) ∙ ap (λ (z : ℕ). suc m * z) (sym (pow-add 2 k 1074)) })
 fits-good (fin s (suc m) (negsuc k)) f t =
     let p = tests (eqb (suc m % 2) 1) (ltb (suc m) (2 ^ 53)) (leb (2 ^ suc k) (2 ^ 1074)) (ltb (suc m * 1) (2 ^ 1024 * 2 ^ suc k)) f in
-    let l : suc k ≤ 1074 = pow-le-back (suc k) 1074 (leb→le (2 ^ suc k) (2 ^ 1074) (p .1)) in
+    let l : suc k ≤ 1074 = exponent-le (suc k) 1074 (leb→le (2 ^ suc k) (2 ^ 1074) (p .1)) in
     good-from (suc m * 1) unit (2 ^ suc k) (suc m * 2 ^ (1074 - suc k)) (pow-pos (suc k))
-    (ap (λ (z : ℕ). z * 2 ^ 1074) (mul-one (suc m)) ∙ ap (λ (z : ℕ). suc m * z) (pow-split l) ∙ sym (mul-assoc (suc m) (2 ^ (1074 - suc k)) (2 ^ suc k)))
+    (ap (λ (z : ℕ). z * 2 ^ 1074) (mul-one (suc m)) ∙ align (suc m) l)
     (record { digits = suc m; places = 1074 - suc k; few = ltb→lt (suc m) (2 ^ 53) (p .0); is = refl })
 
 -- and is below the top of the format
@@ -132,13 +132,7 @@ pub fits-below : (x : Float) → T (fits binary64 x) → T (finite x) → mag x 
 unfolding fits mag unit
 fits-below nan f t = absurd t
 fits-below (inf s) f t = absurd t
-fits-below (fin s zero e) f t = div-lt-iff-lt-mul (down-pos e) .1 (lt-of-le-of-lt (le-of-eq (none (up e) (2 ^ 1074))) (mul-pos (pow-pos 2098) (down-pos e)))
-  where
-    none : (u w : ℕ) → 0 * u * w ≡ 0
-    none u w = omega arith
+fits-below (fin s zero e) f t = div-lt-iff-lt-mul (down-pos e) .1 (lt-of-le-of-lt (le-of-eq (ringℕ (up e ∷ []) (search poly depth 30) done)) (mul-pos (pow-pos 2098) (down-pos e)))
 fits-below (fin s (suc m) e) f t =
     let h = ltb→lt (suc m * up e) (2 ^ 1024 * down e) (tests (eqb (suc m % 2) 1) (ltb (suc m) (2 ^ 53)) (leb (down e) (2 ^ 1074)) (ltb (suc m * up e) (2 ^ 1024 * down e)) f .2) in
-    div-lt-iff-lt-mul (down-pos e) .1 (lt-of-lt-of-le (mul-lt-mul-of-pos-right h (pow-pos 1074)) (le-of-eq (shape (2 ^ 1024) (down e) (2 ^ 1074))))
-  where
-    shape : (a d u : ℕ) → a * d * u ≡ a * u * d
-    shape a d u = omega arith
+    div-lt-iff-lt-mul (down-pos e) .1 (lt-of-lt-of-le (mul-lt-mul-of-pos-right h (pow-pos 1074)) (le-of-eq (mul-right-comm (2 ^ 1024) (down e) (2 ^ 1074))))

@@ -4,7 +4,6 @@ pub mod Ceil
 pub mod Small
 pub mod Nearest
 -- laws, lowest first: natural numbers, rounding, the operations, the root
-pub mod Norm
 pub mod Steps
 pub mod Near
 pub mod Value

@@ -3,7 +3,7 @@
 use mathlib.Core.Path.{_≡_, refl, sym, ap, _∙_, subst, subst₂}
 use mathlib.Core.Bool.{Bool, true, false, not, cond, true≢false}
 use Prim.Native.Nat.{ℕ, _+_, _-_, _*_, _^_, _≤_, _<_}
-use native.Mathlib.Nat.{le-trans, le-of-eq, mul-le-mul-right, mul-pos, mul-assoc, mul-comm, le-of-mul-le-mul-right, eq-of-mul-eq-mul-right, mul-mul-mul-comm, mul-sub, mul-lt-mul-of-pos-right, le-of-lt, lt-irrefl, not-le-of-lt}
+use native.Mathlib.Nat.{le-trans, le-of-eq, mul-le-mul-right, mul-pos, mul-assoc, mul-comm, one-mul, add-sub-of-le, le-of-mul-le-mul-right, eq-of-mul-eq-mul-right, mul-mul-mul-comm, mul-sub, mul-lt-mul-of-pos-right, le-of-lt, lt-irrefl, not-le-of-lt}
 use native.Mathlib.Omega.{arith}
 use lib.Dec.{T, ltb, eqb, ltb→lt, nltb→le, eqb→eq}
 use lib.Ieee.{Float, nan, inf, fin, binary64, up, down, round, neg, sum, add, sub, mul, div, unlike}
@@ -50,17 +50,14 @@ pub record Approx (z : Float) (A B e : ℕ) : Type 0 where
   pub low : 2 ^ 53 * (A + minus z) ≤ 2 ^ 53 * (plus z + B) + e
 
 -- ---- a factor that numerator and denominator have in common
-pub close-cancel : (r n den k : ℕ) → 0 < k → Close r (n * k) (den * k) → Close r n den
+close-cancel : (r n den k : ℕ) → 0 < k → Close r (n * k) (den * k) → Close r n den
 close-cancel r n den k K c = (
   le-of-mul-le-mul-right {k = k} (omega arith) K,
   le-of-mul-le-mul-right {k = k} (omega arith) K,
 )
 
 close-one : (r n u : ℕ) → 0 < u → Close r (n * u) u → Close r n 1
-close-one r n u U c = close-cancel r n 1 u U (subst (λ (d : ℕ). Close r (n * u) d) (sym (one u)) c)
-  where
-    one : (u : ℕ) → 1 * u ≡ u
-    one u = omega arith
+close-one r n u U c = close-cancel r n 1 u U (subst (λ (d : ℕ). Close r (n * u) d) (sym (one-mul u)) c)
 
 pub near-units : (s : Bool) (n : ℕ) → n ≤ 2 ^ 100 * unit → Rounded (round binary64 s n unit) s n 1
 near-units s n h =
@@ -101,9 +98,6 @@ diff a b c x y p q =
     ∙ sym (mul-sub c x y)
     ∙ mul-comm c (x - y)
 
-back : (x y : ℕ) → y ≤ x → x ≡ y + (x - y)
-back x y h = omega arith
-
 module _ (a b c x y : ℕ) (C : 0 < c) (p : a * unit ≡ x * c) (q : b * unit ≡ y * c) where
   order : b ≤ a → y ≤ x
   order h = le-of-mul-le-mul-right {k = c} (omega (arith, mul-le-mul-right unit h)) C
@@ -124,17 +118,17 @@ sum-of false true a b c x y A B C p q i j = go (ltb a b) (ltb→lt a b) (nltb→
   where
     go : (u : Bool) → (T u → a < b) → (T (not u) → b ≤ a) → SumOf (cond u (round binary64 true (b - a) c) (round binary64 false (a - b) c)) A B
     go true f g =
-        let o = back y x (order b a c y x C q p (omega (arith, f tt))) in
+        let o = add-sub-of-le (order b a c y x C q p (omega (arith, f tt))) in
         below (y - x) (other-sign b a c y x C q p true) (omega arith)
     go false f g =
-        let o = back x y (order a b c x y C p q (g tt)) in
+        let o = add-sub-of-le (order a b c x y C p q (g tt)) in
         above (x - y) (other-sign a b c x y C p q false) (omega arith)
 sum-of true false a b c x y A B C p q i j = go (ltb a b) (ltb→lt a b) (nltb→le a b)
   where
     -- an exact zero is +0
     at-zero : (v : Bool) → (T (not v) → a ≤ b) → b ≤ a → SumOf (round binary64 v (a - b) c) A B
     at-zero true f g =
-        let o = back x y (order a b c x y C p q g) in
+        let o = add-sub-of-le (order a b c x y C p q g) in
         below (x - y) (other-sign a b c x y C p q true) (omega arith)
     at-zero false f g =
         let o = order a b c x y C p q g in
@@ -143,15 +137,15 @@ sum-of true false a b c x y A B C p q i j = go (ltb a b) (ltb→lt a b) (nltb→
 
     go : (u : Bool) → (T u → a < b) → (T (not u) → b ≤ a) → SumOf (cond u (round binary64 false (b - a) c) (round binary64 (ltb b a) (a - b) c)) A B
     go true f g =
-        let o = back y x (order b a c y x C q p (omega (arith, f tt))) in
+        let o = add-sub-of-le (order b a c y x C q p (omega (arith, f tt))) in
         above (y - x) (other-sign b a c y x C q p false) (omega arith)
     go false f g = at-zero (ltb b a) (nltb→le b a) (g tt)
 
 pub cross : (p u M dn dd : ℕ) → p * u ≡ M * dn → p * dd * u ≡ M * (dn * dd)
-cross p u M dn dd g = let k : p * u * dd ≡ M * dn * dd = ap (λ (z : ℕ). z * dd) g in omega arith
+cross p u M dn dd g = omega (arith, ap (λ (z : ℕ). z * dd) g)
 
 pub cross' : (p u M dn dd : ℕ) → p * u ≡ M * dn → p * dd * u ≡ M * (dd * dn)
-cross' p u M dn dd g = let k : p * u * dd ≡ M * dn * dd = ap (λ (z : ℕ). z * dd) g in omega arith
+cross' p u M dn dd g = omega (arith, ap (λ (z : ℕ). z * dd) g)
 
 pub add-of : (x y : Float) → Good x → Good y → SumOf (add binary64 x y) (plus x + plus y) (minus x + minus y)
 unfolding add Good plus minus sign

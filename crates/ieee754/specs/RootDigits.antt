@@ -3,8 +3,9 @@
 use mathlib.Core.Path.{_≡_, refl, sym, ap, _∙_, subst}
 use mathlib.Core.Logic.{_⊎_, inl, inr}
 use mathlib.Core.Bool.{Bool, true, false, not, cond, true≢false}
+use mathlib.Core.List.{[], _∷_}
 use Prim.Native.Nat.{ℕ, zero, suc, _+_, _-_, _*_, _/_, _%_, _^_, _≤_, _<_}
-use native.Mathlib.Nat.{le-trans, le-of-eq, le-of-lt, lt-of-le-of-lt, lt-of-lt-of-le, mul-le-mul, mul-le-mul-left, mul-le-mul-right, mul-pos, mul-assoc, zero-lt-suc, le-of-mul-le-mul-right, lt-of-mul-lt-mul-right, eq-of-mul-eq-mul-right, eq-or-lt-of-le, div-lt-iff-lt-mul, le-div-iff-mul-le, lt-of-not-le, not-le-of-lt, mul-lt-mul-of-pos-right}
+use native.Mathlib.Nat.{le-trans, le-of-eq, le-of-lt, lt-of-le-of-lt, lt-of-lt-of-le, mul-le-mul, mul-le-mul-left, mul-le-mul-right, mul-pos, mul-mul-mul-comm, zero-lt-suc, le-of-mul-le-mul-right, lt-of-mul-lt-mul-right, eq-of-mul-eq-mul-right, eq-or-lt-of-le, div-lt-iff-lt-mul, le-div-iff-mul-le, lt-of-not-le, not-le-of-lt, mul-lt-mul-of-pos-right}
 use native.Mathlib.Decide.{ℕ-discrete}
 use native.Mathlib.Omega.{arith}
 use lib.Dec.{T, ltb, nltb→le, lit<}
@@ -15,7 +16,9 @@ use lib.Ieee.Digits.{size-lt, size-le}
 use lib.Ieee.Fits.{up-pos, down-pos}
 use lib.Ieee.Order.{drop, kept}
 use lib.Ieee.Nearest.{closest}
-use Rattle.ieee754.specs.Norm.{sq-mono, sq-lt-back, pow-le-back, pow-split}
+use Rattle.ring.specs.Ring.{ringℕ, poly, done}
+use Rattle.ring.specs.Order.{belowℕ, equalℕ, num, slackℕ, _⊞_, _⊠_, nil, diffℕ, _⊙_}
+use Rattle.ring.specs.Nat.{sq-mono, sq-lt-back, exponent-le, align}
 use Rattle.ieee754.specs.Near.{closest-half}
 use Rattle.ieee754.specs.Value.{unit, unit-pos, mag, sign, Good, Is, round-kept}
 use Rattle.ieee754.specs.Exact.{Rep}
@@ -102,10 +105,7 @@ module _ (a c s k w : ℕ) where
       (strict odd)) b)
     where
       form : (t : ℕ) → t * (2 * scale c * 2 ^ k) ≡ 2 * (2 * (t * 2 ^ w) * unit)
-      form t = ap (λ (z : ℕ). t * z) (mul-assoc 2 (scale c) (2 ^ k) ∙ ap (λ (z : ℕ). 2 * z) e) ∙ again unit (2 ^ w)
-        where
-          again : (u q : ℕ) → t * (2 * (2 * (u * q))) ≡ 2 * (2 * (t * q) * u)
-          again u q = omega arith
+      form t = equalℕ (t ∷ c ∷ unit ∷ 2 ^ k ∷ 2 ^ w ∷ []) (pos (2 * t) ⊙ diffℕ e) (search poly depth 30) done
 
       double : {m n : ℕ} → m < n → 2 * m < 2 * n
       double h = omega arith
@@ -117,13 +117,7 @@ module _ (a c s k w : ℕ) where
 -- ---- the same in units: with l p = 2 u q, the squares of t p against 4 v are those of t q against X
 module _ (p q l u v X : ℕ) (L : 0 < l) (U : 0 < u) (e : l * p ≡ 2 * (u * q)) (f : v * (l * l) ≡ X * (u * u)) where
   side : (t : ℕ) → t * p * (t * p) * (l * l) ≡ t * q * (t * q) * (4 * (u * u))
-  side t = one ∙ ap (λ (z : ℕ). t * t * (z * z)) e ∙ two
-    where
-      one : t * p * (t * p) * (l * l) ≡ t * t * (l * p * (l * p))
-      one = omega arith
-
-      two : t * t * (2 * (u * q) * (2 * (u * q))) ≡ t * q * (t * q) * (4 * (u * u))
-      two = omega arith
+  side t = equalℕ (t ∷ p ∷ q ∷ l ∷ u ∷ []) (pos (t * t * (l * p + 2 * (u * q))) ⊙ diffℕ e) (search poly depth 30) done
 
   square : 4 * v * (l * l) ≡ X * (4 * (u * u))
   square = omega arith
@@ -143,23 +137,13 @@ down-power (pos k) = (0, refl)
 down-power (negsuc k) = (suc k, refl)
 
 deep : (a M g s k : ℕ) → 0 < a → a * 2 ^ 1074 ≡ M * 2 ^ g → s < 2 ^ 54 → 4 * (M * 2 ^ 1074) < (s + 1) * 2 ^ k * ((s + 1) * 2 ^ k) → 1021 ≤ k + g
-deep a M g s k A e S h =
-    let x : 4 * (2 ^ 1074 * 2 ^ 1074) ≤ 4 * (M * 2 ^ 1074) * 2 ^ g = low (2 ^ 1074) (2 ^ g) e in
-    let y : (s + 1) * 2 ^ k * ((s + 1) * 2 ^ k) ≤ 2 ^ 54 * 2 ^ k * (2 ^ 54 * 2 ^ k) = sq-mono (mul-le-mul-right (2 ^ k) (one-more s S)) in
-    let z : 2 ^ 2150 ≤ 2 ^ (54 + k + (54 + k) + g) =
-    le-trans x (le-trans (mul-le-mul-right (2 ^ g) (le-trans (le-of-lt h) y))
-    (le-of-eq (sym (pow-add 2 (54 + k + (54 + k)) g ∙ ap (λ (n : ℕ). n * 2 ^ g) (pow-add 2 (54 + k) (54 + k) ∙ ap (λ (n : ℕ). n * n) (pow-add 2 54 k)))))) in
-    let w = pow-le-back 2150 (54 + k + (54 + k) + g) z in
-    omega arith
+deep a M g s k A e S h = omega (arith, exponent-le 2150 (108 + (k + k) + g) all)
   where
-    one-more : (s : ℕ) → s < 2 ^ 54 → s + 1 ≤ 2 ^ 54
-    one-more s h = omega arith
-
-    low : (u G : ℕ) → a * u ≡ M * G → 4 * (u * u) ≤ 4 * (M * u) * G
-    low u G e =
-        let i : 1 * (u * u) ≤ a * (u * u) = mul-le-mul-right (u * u) A in
-        let j : a * u * u ≡ M * G * u = ap (λ (n : ℕ). n * u) e in
-        omega arith
+    all : 2 ^ 2150 ≤ 2 ^ (108 + (k + k) + g)
+    all =
+        belowℕ (a ∷ M ∷ s ∷ 2 ^ k ∷ 2 ^ g ∷ [])
+        (slackℕ S ⊠ num ((2 ^ 54 + s + 1) * (2 ^ k * 2 ^ k * 2 ^ g)) ⊞ slackℕ (le-of-lt h) ⊠ num (2 ^ g) ⊞ nil (pos (4 * 2 ^ 1074) ⊙ diffℕ (sym e)) ⊞ num (4 * 2 ^ 2148) ⊠ slackℕ A)
+        (search poly depth 30) done
 
 -- ---- 4 V / 4 ^ k is an even whole number, so an odd s is not its root
 odd-square : (s t : ℕ) → s % 2 ≡ 1 → s * s ≡ 2 * t → ⊥
@@ -172,10 +156,7 @@ odd-square s t o e = go (s / 2) (subst (λ (n : ℕ). n * n ≡ 2 * t) (form s o
     go h e = omega arith
 
 pub four-square : (m f : ℕ) → 4 * (m * 2 ^ f * 2 ^ 1074) ≡ m * 2 ^ (f + 1076)
-four-square m f = shape (2 ^ f) (2 ^ 1074) ∙ ap (λ (n : ℕ). m * n) (sym (pow-add 2 f 1076))
-  where
-    shape : (F u : ℕ) → 4 * (m * F * u) ≡ m * (F * (4 * u))
-    shape F u = omega arith
+four-square m f = ringℕ (m ∷ 2 ^ f ∷ []) (search poly depth 30) done
 
 no-tie : (m f s k : ℕ) → m < 2 ^ 53 → 2 ^ 53 ≤ s → s * 2 ^ k * (s * 2 ^ k) ≤ 4 * (m * 2 ^ f * 2 ^ 1074) → (s % 2 ≡ 0) ⊎ (s * 2 ^ k * (s * 2 ^ k) < 4 * (m * 2 ^ f * 2 ^ 1074))
 no-tie m f s k b lo h = elim (ℕ-discrete (s % 2) 0) [ yes e ↦ inl e | no n ↦ inr (elim (eq-or-lt-of-le h) [ inl e ↦ absurd (clash n e) | inr l ↦ l ]) ]
@@ -183,30 +164,22 @@ no-tie m f s k b lo h = elim (ℕ-discrete (s % 2) 0) [ yes e ↦ inl e | no n �
     P : ℕ
     P = 2 ^ k * 2 ^ k
 
-    square : (q : ℕ) → s * q * (s * q) ≡ s * s * (q * q)
-    square q = omega arith
-
     room : k + k + 1 ≤ f + 1076
-    room =
-        let x : 2 ^ 106 * P ≤ s * s * P = mul-le-mul-right P (sq-mono lo) in
-        let y : m * 2 ^ (f + 1076) ≤ 2 ^ 53 * 2 ^ (f + 1076) = mul-le-mul-right (2 ^ (f + 1076)) (le-of-lt b) in
-        let z : 106 + (k + k) ≤ 53 + (f + 1076) =
-        pow-le-back (106 + (k + k)) (53 + (f + 1076))
-        (le-trans (le-of-eq (pow-add 2 106 (k + k) ∙ ap (λ (n : ℕ). 2 ^ 106 * n) (pow-add 2 k k)))
-        (le-trans x (le-trans (le-of-eq (sym (square (2 ^ k)))) (le-trans h (le-trans (le-of-eq (four-square m f)) (le-trans y (le-of-eq (sym (pow-add 2 53 (f + 1076)))))))))) in
-        omega arith
+    room = omega (
+      arith,
+      exponent-le (106 + (k + k)) (1129 + f)
+          (belowℕ (m ∷ s ∷ 2 ^ f ∷ 2 ^ k ∷ []) (slackℕ (le-of-lt b) ⊠ num (2 ^ 1076 * 2 ^ f) ⊞ slackℕ h ⊞ slackℕ (sq-mono lo) ⊠ num (2 ^ k * 2 ^ k)) (search poly depth 30) done),
+    )
 
     clash : (s % 2 ≡ 0 → ⊥) → s * 2 ^ k * (s * 2 ^ k) ≡ 4 * (m * 2 ^ f * 2 ^ 1074) → ⊥
     clash n e =
         let j = f + 1076 - (k + k + 1) in
-        let even : m * 2 ^ (f + 1076) ≡ 2 * (m * 2 ^ j) * P = ap (λ (i : ℕ). m * i) (pow-split room ∙ ap (λ (i : ℕ). 2 ^ j * i) (pow-add 2 (k + k) 1 ∙ ap (λ (i : ℕ). i * 2) (pow-add 2 k k))) ∙ shape (2 ^ j) P in
-        odd-square s (m * 2 ^ j) (odd s n) (eq-of-mul-eq-mul-right P (mul-pos (pow-pos k) (pow-pos k)) (s * s) (2 * (m * 2 ^ j)) (sym (square (2 ^ k)) ∙ e ∙ four-square m f ∙ even))
+        let even : m * 2 ^ (f + 1076) ≡ 2 * (m * 2 ^ j) * P = align m room ∙ ringℕ (m ∷ 2 ^ j ∷ 2 ^ k ∷ []) (search poly depth 30) done in
+        odd-square s (m * 2 ^ j) (odd s n)
+        (eq-of-mul-eq-mul-right P (mul-pos (pow-pos k) (pow-pos k)) (s * s) (2 * (m * 2 ^ j)) (sym (mul-mul-mul-comm s (2 ^ k) s (2 ^ k)) ∙ e ∙ four-square m f ∙ even))
       where
         odd : (s : ℕ) → (s % 2 ≡ 0 → ⊥) → s % 2 ≡ 1
         odd s n = omega arith
-
-        shape : (J P : ℕ) → m * (J * (P * 2)) ≡ 2 * (m * J) * P
-        shape J P = omega arith
 
 -- ---- the root of x
 pub root-digits : (x : Float) (s k : ℕ) → Good x → sign x ≡ false → Rep (mag x) → mag x < 2 ^ 2098 → 2 ^ 53 ≤ s → s < 2 ^ 54
@@ -252,16 +225,10 @@ root-digits (fin false (suc n) e) s k g p r t lo hi x y = go (down-power e .0) (
         places i d = omega arith
 
         steps : (i w : ℕ) → i + 54 + k ≡ 1075 + w → 2 ^ i * 2 ^ 54 * 2 ^ k ≡ 2 * (2 ^ 1074 * 2 ^ w)
-        steps i w e = sym (pow-add 2 (i + 54) k ∙ ap (λ (x : ℕ). x * 2 ^ k) (pow-add 2 i 54)) ∙ ap (λ (x : ℕ). 2 ^ x) e ∙ pow-add 2 1075 w ∙ mul-assoc 2 (2 ^ 1074) (2 ^ w)
+        steps i w e = ringℕ (2 ^ i ∷ 2 ^ k ∷ []) (search poly depth 30) done ∙ ap (λ (x : ℕ). 2 ^ x) e ∙ ringℕ (2 ^ w ∷ []) (search poly depth 30) done
 
         areas : (M u a c p : ℕ) → a * u ≡ M * c → M * u * (c * p * (c * p)) ≡ a * (c * p) * p * (u * u)
-        areas M u a c p e = one ∙ ap (λ (z : ℕ). z * (c * p * p * u)) (sym e) ∙ two
-          where
-            one : M * u * (c * p * (c * p)) ≡ M * c * (c * p * p * u)
-            one = omega arith
-
-            two : a * u * (c * p * p * u) ≡ a * (c * p) * p * (u * u)
-            two = omega arith
+        areas M u a c p e = equalℕ (M ∷ u ∷ a ∷ c ∷ p ∷ []) (pos (c * p * p * u) ⊙ diffℕ (sym e)) (search poly depth 30) done
 
         top : (s + 1) / 2 * 2 ^ k < 2 ^ 2098
         top =

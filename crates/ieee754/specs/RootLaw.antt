@@ -1,17 +1,20 @@
 -- The rounded root against whole-number squares: where K² is at least, or at most, the square of the exact root in units, K is so of the rounded root, but for 2 ^ -50 of it and a unit.
 use mathlib.Core.Path.{_≡_, refl, sym, ap, _∙_, subst}
 use mathlib.Core.Bool.{Bool, true, false, not, cond, true≢false}
-use Prim.Native.Nat.{ℕ, zero, suc, _+_, _*_, _/_, _^_, _≤_, _<_}
-use native.Mathlib.Nat.{le-trans, le-of-eq, lt-of-le-of-lt, lt-of-lt-of-le, mul-le-mul, mul-le-mul-right, mul-pos, pow-suc, div-lt-iff-lt-mul, zero-lt-suc, le-of-mul-le-mul-right, zero-mul, zero-div}
+use mathlib.Core.List.{[], _∷_}
+use Prim.Native.Nat.{ℕ, zero, suc, _+_, _-_, _*_, _/_, _^_, _≤_, _<_}
+use native.Mathlib.Nat.{le-trans, le-of-eq, lt-of-le-of-lt, lt-of-lt-of-le, mul-le-mul, mul-le-mul-right, mul-pos, pow-suc, div-lt-iff-lt-mul, zero-lt-suc, le-of-mul-le-mul-left, le-of-mul-le-mul-right, zero-mul, zero-div}
 use native.Mathlib.Omega.{arith}
 use lib.IntN.{ℤ}
-use lib.Dec.{T, leb, ltb, leb→le, nleb→lt, lit≤}
-use lib.Pow.{pow-add, pow-pos, pow-mono}
+use lib.Dec.{T, leb, ltb, leb→le, nleb→lt, lit<, lit≤}
+use lib.Pow.{pow-pos, pow-mono}
 use lib.Ieee.{Float, nan, inf, fin, binary64, size, round, up, down}
 use lib.Ieee.Digits.{size-lt}
 use lib.Ieee.Fits.{up-pos, down-pos}
 use Rattle.ieee754.specs.Steps.{Root}
-use Rattle.ieee754.specs.Norm.{sq-le-back, sq-lt-back}
+use Rattle.ring.specs.Ring.{pow-mul, poly, done}
+use Rattle.ring.specs.Order.{belowℕ, num, slackℕ, _⊞_, _⊠_}
+use Rattle.ring.specs.Nat.{sq-le-back, sq-lt-back}
 use Rattle.ieee754.specs.Value.{unit, unit-pos, mag, sign, Good, Rounded, round-near}
 use Rattle.ieee754.specs.Root.{isqrtAt, isqrt, rootOf, root}
 
@@ -28,59 +31,31 @@ unfolding isqrtAt
 isqrtAt-root zero n h = omega arith
 isqrtAt-root (suc k) n h = isqrt-step n (isqrtAt k (n / 4)) (isqrtAt-root k (n / 4) (div-lt-iff-lt-mul (zero-lt-suc 3) .1 (subst (λ (x : ℕ). n < x) (pow-suc 4 k) h)))
 
-four : (k : ℕ) → 4 ^ k ≡ 2 ^ (2 * k)
-four zero = refl
-four (suc k) =
-    pow-suc 4 k ∙ ap (λ (z : ℕ). z * 4) (four k) ∙ sym (pow-add 2 (2 * k) 2) ∙ ap (λ (z : ℕ). 2 ^ z) (next k)
-  where
-    next : (k : ℕ) → 2 * k + 2 ≡ 2 * suc k
-    next k = omega arith
-
 pub isqrt-root : (n : ℕ) → Root n (isqrt n)
 unfolding isqrt
-isqrt-root n = isqrtAt-root ((size n + 1) / 2) n (lt-of-lt-of-le (size-lt n) (le-trans (pow-mono (enough (size n))) (le-of-eq (sym (four ((size n + 1) / 2))))))
+isqrt-root n = isqrtAt-root ((size n + 1) / 2) n (lt-of-lt-of-le (size-lt n) (le-trans (pow-mono (enough (size n))) (le-of-eq (pow-mul 2 ((size n + 1) / 2) 2))))
   where
-    enough : (z : ℕ) → z ≤ 2 * ((z + 1) / 2)
+    enough : (z : ℕ) → z ≤ (z + 1) / 2 * 2
     enough z = omega arith
 
 -- ---- r / l, the whole root's fraction, against K / u for V = a u² / c
 module _ (a c r u K P : ℕ) where
   whole-high : r * r ≤ a * (c * P) * P → a * u * u ≤ K * K * c → r * u ≤ K * (c * P)
-  whole-high x h =
-      let p : r * r * (u * u) ≤ a * (c * P) * P * (u * u) = mul-le-mul-right (u * u) x in
-      let q : a * u * u * (c * P * P) ≤ K * K * c * (c * P * P) = mul-le-mul-right (c * P * P) h in
-      sq-le-back (r * u) (K * (c * P)) (omega arith)
+  whole-high x h = sq-le-back (r * u) (K * (c * P)) (omega (arith, mul-le-mul-right (u * u) x, mul-le-mul-right (c * P * P) h))
 
   whole-low : a * (c * P) * P < (r + 1) * (r + 1) → K * K * c ≤ a * u * u → K * (c * P) ≤ (r + 1) * u
-  whole-low x h =
-      let p : suc (a * (c * P) * P) * (u * u) ≤ (r + 1) * (r + 1) * (u * u) = mul-le-mul-right (u * u) x in
-      let q : K * K * c * (c * P * P) ≤ a * u * u * (c * P * P) = mul-le-mul-right (c * P * P) h in
-      sq-le-back (K * (c * P)) ((r + 1) * u) (omega arith)
+  whole-low x h = sq-le-back (K * (c * P)) ((r + 1) * u) (omega (arith, mul-le-mul-right (u * u) x, mul-le-mul-right (c * P * P) h))
 
 -- ---- from the fraction F / (2 l) in units, F = (2 r + st) u
-high-a : (F kl u : ℕ) → F ≤ 2 * kl + u → 2 ^ 54 * u ≤ kl → 2 ^ 53 * F + F ≤ 2 ^ 54 * kl + 3 * kl
-high-a F kl u f s = omega arith
-
-high-b : (w l G kl : ℕ) → 2 ^ 53 * (2 * w) ≤ G + 2 ^ 52 * (2 * l) → G ≤ 2 ^ 54 * kl + 3 * kl → 2 ^ 50 * w ≤ 2 ^ 50 * kl + kl + 2 ^ 50 * l
-high-b w l G kl c g = omega arith
-
-two-l : (z l : ℕ) → z * (2 * l) ≡ 2 * (z * l)
-two-l z l = omega arith
-
 high-sum : (z l F kl u : ℕ) → 2 ^ 53 * (z * (2 * l)) ≤ 2 ^ 53 * F + F + 2 ^ 52 * (2 * l) → F ≤ 2 * kl + u → 2 ^ 54 * u ≤ kl → 2 ^ 50 * (z * l) ≤ 2 ^ 50 * kl + kl + 2 ^ 50 * l
-high-sum z l F kl u c f s = high-b (z * l) l (2 ^ 53 * F + F) kl (subst (λ (x : ℕ). 2 ^ 53 * x ≤ 2 ^ 53 * F + F + 2 ^ 52 * (2 * l)) (two-l z l) c) (high-a F kl u f s)
-
-low-a : (w l F : ℕ) → 2 ^ 53 * F ≤ 2 ^ 53 * (2 * w) + F + 2 ^ 52 * (2 * l) → 2 ^ 51 * F ≤ 2 ^ 51 * (2 * w + l) + (2 * w + l)
-low-a w l F c = omega arith
-
-low-b : (F kl u : ℕ) → 2 * kl ≤ F + 2 * u → 2 ^ 55 * u ≤ F → 2 ^ 55 * kl ≤ 2 ^ 54 * F + F
-low-b F kl u f s = omega arith
-
-low-c : (w l F kl : ℕ) → 2 ^ 51 * F ≤ 2 ^ 51 * (2 * w + l) + (2 * w + l) → 2 ^ 55 * kl ≤ 2 ^ 54 * F + F → 2 ^ 50 * kl ≤ 2 ^ 50 * w + w + 2 ^ 50 * l
-low-c w l F kl a b = omega arith
+high-sum z l F kl u c f s = le-of-mul-le-mul-left {k = 2 ^ 4}
+    (belowℕ (z ∷ l ∷ F ∷ kl ∷ u ∷ []) (slackℕ c ⊞ num (2 ^ 53 + 1) ⊠ slackℕ f ⊞ slackℕ s ⊞ num (13 * kl + (2 ^ 53 - 1) * u + 2 ^ 53 * l)) (search poly depth 30) done) (lit< tt)
 
 low-sum : (z l F kl u : ℕ) → 2 ^ 53 * F ≤ 2 ^ 53 * (z * (2 * l)) + F + 2 ^ 52 * (2 * l) → 2 * kl ≤ F + 2 * u → 2 ^ 55 * u ≤ F → 2 ^ 50 * kl ≤ 2 ^ 50 * (z * l) + z * l + 2 ^ 50 * l
-low-sum z l F kl u c f s = low-c (z * l) l F kl (low-a (z * l) l F (subst (λ (x : ℕ). 2 ^ 53 * F ≤ 2 ^ 53 * x + F + 2 ^ 52 * (2 * l)) (two-l z l) c)) (low-b F kl u f s)
+low-sum z l F kl u c f s = le-of-mul-le-mul-left {k = 2 ^ 5 * (2 ^ 53 - 1)}
+    (belowℕ (z ∷ l ∷ F ∷ kl ∷ u ∷ [])
+    (num (2 ^ 54 + 1) ⊠ slackℕ c ⊞ num (2 ^ 53 - 1) ⊠ (num (2 ^ 54) ⊠ slackℕ f ⊞ slackℕ s)
+    ⊞ num ((2 ^ 58 - 2 ^ 55 - 2 ^ 54 - 2 ^ 5) * (z * l) + (2 ^ 107 - 2 ^ 55 - 2 ^ 53) * l)) (search poly depth 30) done) (lit< tt)
 
 -- ---- the rounded root of a / c
 abbrev pub scale : ℕ → ℕ
@@ -178,19 +153,13 @@ unfolding mag
 zero-mag t e = rw (zero-mul, zero-mul, zero-div)
 
 pub reach : (a u M c K : ℕ) → 0 < u → a * u ≡ M * c → M ≤ K * u → a ≤ K * c
-reach a u M c K U g b = let p : M * c ≤ K * u * c = mul-le-mul-right c b in le-of-mul-le-mul-right {k = u} (omega arith) U
+reach a u M c K U g b = le-of-mul-le-mul-right {k = u} (omega (arith, mul-le-mul-right c b)) U
 
 lift-high : (a u M c K : ℕ) → a * u ≡ M * c → M * u ≤ K * K → a * u * u ≤ K * K * c
-lift-high a u M c K g h =
-    let p : M * u * c ≤ K * K * c = mul-le-mul-right c h in
-    let q : a * u * u ≡ M * c * u = ap (λ (z : ℕ). z * u) g in
-    omega arith
+lift-high a u M c K g h = omega (arith, mul-le-mul-right c h, ap (λ (z : ℕ). z * u) g)
 
 lift-low : (a u M c K : ℕ) → a * u ≡ M * c → K * K ≤ M * u → K * K * c ≤ a * u * u
-lift-low a u M c K g h =
-    let p : K * K * c ≤ M * u * c = mul-le-mul-right c h in
-    let q : a * u * u ≡ M * c * u = ap (λ (z : ℕ). z * u) g in
-    omega arith
+lift-low a u M c K g h = omega (arith, mul-le-mul-right c h, ap (λ (z : ℕ). z * u) g)
 
 no-side : (K n u : ℕ) → n ≡ 0 → K * K ≤ n * u → K ≤ 0
 no-side K n u e h = sq-le-back K 0 (le-trans h (le-of-eq (ap (λ (z : ℕ). z * u) e ∙ zero-mul u)))

@@ -3,15 +3,15 @@ use mathlib.Core.Path.{_≡_, sym, ap, _∙_, subst}
 use mathlib.Core.Logic.{_⊎_, inl, inr}
 use mathlib.Core.Bool.{true, false, true≢false}
 use Prim.Native.Nat.{ℕ, zero, suc, _+_, _-_, _*_, _/_, _^_, _≤_, _<_}
-use native.Mathlib.Nat.{le-trans, le-of-eq, le-of-lt, lt-of-le-of-lt, lt-of-lt-of-le, mul-le-mul-left, mul-le-mul-right, mul-pos, mul-assoc, lt-of-mul-lt-mul-right, zero-lt-suc, div-lt-iff-lt-mul, le-div-iff-mul-le, div-mul-le-self, lt-div-mul-add, not-le-of-lt}
-use native.Mathlib.Omega.{arith}
+use native.Mathlib.Nat.{le-trans, le-of-eq, le-of-lt, lt-of-le-of-lt, lt-of-lt-of-le, mul-le-mul-left, mul-le-mul-right, mul-pos, zero-mul, lt-of-mul-lt-mul-right, zero-lt-suc, div-lt-iff-lt-mul, le-div-iff-mul-le, div-mul-le-self, lt-div-mul-add, not-le-of-lt}
+use native.Mathlib.Omega.{arith, by-contra}
 use lib.Dec.{T, lit≤}
 use lib.Pow.{pow-add, pow-pos, pow-mono}
 use lib.Ieee.{Float, nan, inf, fin, binary64, fits, down, size}
 use lib.Ieee.Digits.{size-lt, size-reaches}
 use lib.Ieee.Fits.{up-pos}
 use lib.Ieee.Scale.{finite}
-use Rattle.ieee754.specs.Norm.{sq-mono, lt-or-ge, pow-split}
+use Rattle.ring.specs.Nat.{sq-mono, lt-or-ge, align}
 use Rattle.ieee754.specs.Value.{unit, unit-pos, mag, sign, Good}
 use Rattle.ieee754.specs.Exact.{Rep, fits-good, fits-below}
 use Rattle.ieee754.specs.Root.{isqrt, root}
@@ -30,7 +30,7 @@ leading r h = go (size r) (size-lt r) (size-reaches r)
   where
     go : (z : ℕ) → r < 2 ^ z → ((j : ℕ) → j < z → 2 ^ j ≤ r) → Leading r
     go z l f =
-        let m : 54 ≤ z = elim (lt-or-ge z 54) [ inl k ↦ absurd (not-le-of-lt (lt-of-lt-of-le l (pow-mono (le-of-lt k))) h) | inr k ↦ k ] in
+        let m : 54 ≤ z = by-contra 54 z (λ k. not-le-of-lt (lt-of-lt-of-le l (pow-mono (le-of-lt k))) h) in
         record {
           places = z - 54;
           low = le-div-iff-mul-le (pow-pos (z - 54)) .1 (le-trans (le-of-eq (sym (pow-add 2 53 (z - 54)))) (f (53 + (z - 54)) (omega arith)));
@@ -45,7 +45,7 @@ leading r h = go (size r) (size-lt r) (size-reaches r)
 coarse-or-small : (k K : ℕ) → Rep K → ((j : ℕ) × (K ≡ j * 2 ^ k)) ⊎ (K ≤ 2 ^ 52 * 2 ^ k)
 coarse-or-small k K r = elim (lt-or-ge (r .places) k) [
   | inl l ↦ inr (le-trans (le-of-eq (r .is)) (few (r .digits) (2 ^ r .places) (2 ^ k) (r .few) (le-trans (le-of-eq (sym (pow-add 2 1 (r .places)))) (pow-mono {i = 1 + r .places} (omega arith)))))
-  | inr g ↦ inl (r .digits * 2 ^ (r .places - k), r .is ∙ ap (λ (n : ℕ). r .digits * n) (pow-split g) ∙ sym (mul-assoc (r .digits) (2 ^ (r .places - k)) (2 ^ k)))
+  | inr g ↦ inl (r .digits * 2 ^ (r .places - k), r .is ∙ align (r .digits) g)
 ]
   where
     few : (d p w : ℕ) → d < 2 ^ 53 → 2 * p ≤ w → d * p ≤ 2 ^ 52 * w
@@ -112,13 +112,10 @@ root-nearest (fin false (suc n) e) f t p K r = go (leading R large)
     R = isqrt (4 * v)
 
     positive : 0 < mag x
-    positive = lt-of-mul-lt-mul-right (down e) (lt-of-le-of-lt (le-of-eq (none (down e))) (lt-of-lt-of-le (mul-pos (mul-pos (zero-lt-suc n) (up-pos e)) unit-pos) (le-of-eq (good .0))))
-      where
-        none : (d : ℕ) → 0 * d ≡ 0
-        none d = omega arith
+    positive = lt-of-mul-lt-mul-right (down e) (lt-of-le-of-lt (le-of-eq (zero-mul (down e))) (lt-of-lt-of-le (mul-pos (mul-pos (zero-lt-suc n) (up-pos e)) unit-pos) (le-of-eq (good .0))))
 
     large : 2 ^ 54 ≤ R
-    large = elim (lt-or-ge R (2 ^ 54)) [ inl l ↦ absurd (not-le-of-lt (isqrt-root (4 * v) .1) (le-trans (sq-mono (next R l)) many)) | inr g ↦ g ]
+    large = by-contra (2 ^ 54) R (λ l. not-le-of-lt (isqrt-root (4 * v) .1) (le-trans (sq-mono (next R l)) many))
       where
         next : (R : ℕ) → R < 2 ^ 54 → R + 1 ≤ 2 ^ 54
         next R l = omega arith

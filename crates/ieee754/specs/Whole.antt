@@ -1,15 +1,18 @@
 -- Whole floats: their squares and sums are exact, and their root is at most a whole number t exactly where they are at most t * t.
 use mathlib.Core.Path.{_≡_, refl, sym, ap, ap₂, _∙_, subst}
-use mathlib.Core.Logic.{inl, inr}
 use mathlib.Core.Bool.{Bool, true, false, cond, true≢false}
-use Prim.Native.Nat.{ℕ, zero, suc, _+_, _*_, _^_, _≤_, _<_}
-use native.Mathlib.Nat.{le-trans, le-of-eq, lt-of-le-of-lt, lt-of-lt-of-le, mul-le-mul, mul-le-mul-right, mul-pos, mul-assoc, add-mul, zero-lt-suc, le-of-lt, eq-of-mul-eq-mul-right, mul-right-comm}
+use mathlib.Core.List.{[], _∷_}
+use Prim.Native.Nat.{ℕ, zero, suc, _+_, _*_, _-_, _^_, _≤_, _<_, zero-le}
+use native.Mathlib.Nat.{le-trans, le-of-eq, lt-of-le-of-lt, lt-of-lt-of-le, mul-le-mul, mul-le-mul-right, mul-pos, add-mul, zero-lt-suc, lt-of-not-le, le-of-lt, eq-of-mul-eq-mul-right, mul-right-comm}
 use native.Mathlib.Omega.{arith}
+use lib.IntN.{pos}
 use lib.Dec.{T, ltb, ltb→lt, lit<, lit≤}
 use lib.Pow.{pow-pos}
 use lib.Ieee.{Float, nan, inf, fin, binary64, round, add, mul, unlike, up, down}
 use lib.Ieee.Fits.{up-pos, down-pos}
-use Rattle.ieee754.specs.Norm.{sq-le-back, sq-lt-back, lt-or-ge}
+use Rattle.ring.specs.Ring.{ringℕ, poly, done}
+use Rattle.ring.specs.Order.{belowℕ, num, slackℕ, _⊞_, _⊠_, nil, diffℕ, _⊙_}
+use Rattle.ring.specs.Nat.{sq-le-back, sq-lt-back}
 use Rattle.ieee754.specs.Value.{unit, unit-pos, tiny, unit-tiny, tiny-large, mag, sign, Good, Is}
 use Rattle.ieee754.specs.Ops.{add-pos}
 use Rattle.ieee754.specs.Exact.{rep-whole, round-rep, round-le, mul-exact}
@@ -30,23 +33,11 @@ rootOf-whole a c n t A C S e h b =
     let l = scale c in
     let x = a * l * 2 ^ 54 in
     let r = wholeOf a c in
-    let k : x ≤ t * l * (t * l) = le-trans (le-of-eq (area a c n (2 ^ 54) e)) (le-trans (mul-le-mul-right (l * l) h) (le-of-eq (square t l))) in
+    let k : x ≤ t * l * (t * l) = belowℕ (a ∷ c ∷ n ∷ t ∷ []) (slackℕ h ⊠ num (l * l) ⊞ nil (pos (l * 2 ^ 54) ⊙ diffℕ (sym e))) (search poly depth 30) done in
     let s : 2 * r + stick r x ≤ 2 * (t * l) = stick-cases r x (t * l) (isqrt-root x .0) k in
     subst (λ (z : Float). mag z ≤ t * unit) (sym (rootOf-is a c))
     (round-le (2 * r + stick r x) (2 * l) (t * unit) (mul-pos (zero-lt-suc 1) (mul-pos C (pow-pos 54))) (rep-whole t b) (mul-le-mul-right unit (le-trans (le-of-lt b) (lit≤ tt))) (fits-in a c A C S)
-    (le-trans (mul-le-mul-right unit s) (le-of-eq (shape t l unit))))
-  where
-    area : (a c n P : ℕ) → a ≡ n * c → a * (c * P) * P ≡ n * (c * P * (c * P))
-    area a c n P e = ap (λ (z : ℕ). z * (c * P) * P) e ∙ again n c P
-      where
-        again : (n c P : ℕ) → n * c * (c * P) * P ≡ n * (c * P * (c * P))
-        again n c P = omega arith
-
-    square : (t l : ℕ) → t * t * (l * l) ≡ t * l * (t * l)
-    square t l = omega arith
-
-    shape : (t l u : ℕ) → 2 * (t * l) * u ≡ t * u * (2 * l)
-    shape t l u = omega arith
+    (le-trans (mul-le-mul-right unit s) (le-of-eq (ringℕ (t ∷ l ∷ unit ∷ []) (search poly depth 30) done))))
 
 -- a * u = M * c and M = n * u
 whole-fraction : (a u M c n : ℕ) → 0 < u → a * u ≡ M * c → M ≡ n * u → a ≡ n * c
@@ -56,10 +47,7 @@ pub root-whole-le : (x : Float) (n t : ℕ) → Good x → sign x ≡ false → 
 unfolding root Good sign
 root-whole-le nan n t g s m b h k = absurd g
 root-whole-le (inf q) n t g s m b h k = absurd g
-root-whole-le (fin q zero e) n t g s m b h k = le-trans (le-of-eq (zero-mag q e)) (zero-le-any (t * unit))
-  where
-    zero-le-any : (n : ℕ) → 0 ≤ n
-    zero-le-any n = omega arith
+root-whole-le (fin q zero e) n t g s m b h k = le-trans (le-of-eq (zero-mag q e)) zero-le
 root-whole-le (fin true (suc j) e) n t g s m b h k = absurd (true≢false s)
 root-whole-le (fin false (suc j) e) n t g s m b h k =
     rootOf-whole (suc j * up e) (down e) n t (mul-pos (zero-lt-suc j) (up-pos e)) (down-pos e)
@@ -71,32 +59,19 @@ too-far x z y a b c d = omega arith
 
 -- where n is more than t * t the root is more than t
 pub root-whole-lt : (x : Float) (n t : ℕ) → Good x → sign x ≡ false → mag x ≡ n * unit → n ≤ 2 ^ 100 → t * t < n → t ≤ 2 ^ 16 → t * unit < mag (root x)
-root-whole-lt x n t g s m b h k = elim (lt-or-ge (t * unit) (mag (root x))) [ inl l ↦ l | inr l ↦ absurd (bad l) ]
+root-whole-lt x n t g s m b h k = lt-of-not-le bad
   where
     κ : ℕ
     κ = 2 ^ 18 * tiny
 
     U : unit ≡ 2 ^ 18 * κ
-    U = unit-tiny ∙ split tiny
-      where
-        split : (y : ℕ) → 2 ^ 36 * y ≡ 2 ^ 18 * (2 ^ 18 * y)
-        split y = omega arith
+    U = unit-tiny ∙ ringℕ (tiny ∷ []) (search poly depth 30) done
 
     square : (t u κ : ℕ) → u ≡ 2 ^ 18 * κ → t ≤ 2 ^ 16 → (t * u + κ) * (t * u + κ) ≤ (t * t + 1) * (u * u)
-    square t u κ e b =
-        let p : t * (u * κ) ≤ 2 ^ 16 * (u * κ) = mul-le-mul-right (u * κ) b in
-        let q : u * u ≡ 2 ^ 18 * (u * κ) = ap (λ (z : ℕ). u * z) e ∙ swap u κ in
-        let r : u * κ ≡ 2 ^ 18 * (κ * κ) = ap (λ (z : ℕ). z * κ) e ∙ mul-assoc (2 ^ 18) κ κ in
-        omega arith
-      where
-        swap : (u κ : ℕ) → u * (2 ^ 18 * κ) ≡ 2 ^ 18 * (u * κ)
-        swap u κ = omega arith
+    square t u κ e b = belowℕ (t ∷ u ∷ κ ∷ []) (num (2 * u * κ) ⊠ slackℕ b ⊞ nil (pos (u + 2 ^ 17 * κ) ⊙ diffℕ e) ⊞ num ((2 ^ 35 - 1) * (κ * κ))) (search poly depth 30) done
 
     next : (t u M n : ℕ) → M ≡ n * u → t * t < n → (t * t + 1) * (u * u) ≤ M * u
-    next t u M n e h = le-trans (mul-le-mul-right (u * u) (one-more (t * t) n h)) (le-of-eq (sym (mul-assoc n u u) ∙ ap (λ (z : ℕ). z * u) (sym e)))
-      where
-        one-more : (a n : ℕ) → a < n → a + 1 ≤ n
-        one-more a n h = omega arith
+    next t u M n e h = belowℕ (t ∷ u ∷ M ∷ n ∷ []) (slackℕ h ⊠ num (u * u) ⊞ nil (pos u ⊙ diffℕ e)) (search poly depth 30) done
 
     no-way : (t u z y : ℕ) → u ≡ 2 ^ 36 * y → 2 ^ 60 ≤ y → t * u ≤ 2 ^ 16 * u → z ≤ t * u → 2 ^ 50 * (t * u + 2 ^ 18 * y) ≤ 2 ^ 50 * z + z + 2 ^ 50 → ⊥
     no-way t u z y e l b h k = too-far (t * u) z y (le-trans b (le-of-eq (shape u y e))) (le-trans (lit≤ tt) l) h k
@@ -110,18 +85,16 @@ root-whole-lt x n t g s m b h k = elim (lt-or-ge (t * unit) (mag (root x))) [ in
         no-way t unit (mag (root x)) tiny unit-tiny tiny-large (mul-le-mul-right unit k) l (r .low (t * unit + κ) (le-trans (square t unit κ U k) (next t unit (mag x) n m h)))
 
 -- ---- whole floats squared and added
-like : (s : Bool) → unlike s s ≡ false
+pub like : (s : Bool) → unlike s s ≡ false
 like true = refl
 like false = refl
 
 pub whole-square : (d : Float) (k : ℕ) → k ≤ 2 ^ 17 → Good d → mag d ≡ k * unit → Is (mul binary64 d d) false (k * k * unit)
 whole-square d k b g e =
     let h : k * k ≤ 2 ^ 34 = mul-le-mul b b in
-    let i = mul-exact d d (k * k * unit) g g (ap (λ (n : ℕ). n * n) e ∙ shape k unit) (rep-whole (k * k) (lt-of-le-of-lt h (lit< tt))) (mul-le-mul-right unit (le-trans h (lit≤ tt))) in
+    let i = mul-exact d d (k * k * unit) g g (ap (λ (n : ℕ). n * n) e ∙ ringℕ (k ∷ unit ∷ []) (search poly depth 30) done)
+    (rep-whole (k * k) (lt-of-le-of-lt h (lit< tt))) (mul-le-mul-right unit (le-trans h (lit≤ tt))) in
     record { good = i .good; mag-is = i .mag-is; sign-is = i .sign-is ∙ like (sign d) }
-  where
-    shape : (k u : ℕ) → k * u * (k * u) ≡ k * k * u * u
-    shape k u = omega arith
 
 pub whole-sum : (x y : Float) (a b : ℕ) → Is x false (a * unit) → Is y false (b * unit) → a + b < 2 ^ 53 → Is (add binary64 x y) false ((a + b) * unit)
 whole-sum x y a b i j h =

@@ -1,7 +1,7 @@
 -- Laws of what is kept and lost, of how many pass a test, and of sums.
 use mathlib.Core.Path.{_≡_, refl, sym, ap, ap₂, _∙_}
 use mathlib.Core.Logic.{inl, inr}
-use mathlib.Core.Bool.{Bool, true, false, not, _&&_, cond, and-comm}
+use mathlib.Core.Bool.{Bool, true, false, not, _&&_, cond}
 use mathlib.Core.List.{List, [], _∷_, _++_, map, append-assoc}
 use Prim.Native.Nat.{ℕ, suc, _+_, _*_, _≤_, _<_, zero-le, suc-le-suc}
 use native.Mathlib.Nat.{le-refl, add-mul, mul-zero, mul-add}
@@ -52,9 +52,6 @@ module _ {A : Type 0} where
   pub keep-within : (f g : A → Bool) (xs : List A) → ((x : A) → In x xs → T (f x) → T (g x)) → keep f (keep g xs) ≡ keep f xs
   keep-within f g xs h = keep-keep f g xs ∙ keep-same (λ x. g x && f x) f xs (λ x i. both-ways (g x && f x) (f x) (and-right (g x) (f x)) (λ t. and-both (g x) (f x) (h x i t) t))
 
-  pub keep-swap : (f g : A → Bool) (xs : List A) → keep f (keep g xs) ≡ keep g (keep f xs)
-  keep-swap f g xs = keep-keep f g xs ∙ keep-same (λ x. g x && f x) (λ x. f x && g x) xs (λ x i. and-comm (g x) (f x)) ∙ sym (keep-keep g f xs)
-
   -- ---- how many
   pub howMany-cons : (f : A → Bool) (x : A) (xs : List A) → howMany f (x ∷ xs) ≡ cond (f x) 1 0 + howMany f xs
   howMany-cons f x xs = go (f x)
@@ -66,6 +63,10 @@ module _ {A : Type 0} where
   pub keep-none : (f : A → Bool) (xs : List A) → ((x : A) → In x xs → T (f x) → ⊥) → keep f xs ≡ []
   keep-none f [] h = refl
   keep-none f (x ∷ xs) h = rw (T-false (f x) (h x (inl refl))) (keep-none f xs (λ y i. h y (inr i)))
+
+  pub keep-all : (f : A → Bool) (xs : List A) → ((x : A) → In x xs → T (f x)) → keep f xs ≡ xs
+  keep-all f [] h = refl
+  keep-all f (x ∷ xs) h = rw (T-true (f x) (h x (inl refl)), keep-all f xs (λ y i. h y (inr i)))
 
   -- a wider test that one element more passes keeps more
   pub keep-fewer : (f g : A → Bool) (x : A) (xs : List A) → ((y : A) → In y xs → T (f y) → T (g y)) → In x xs → (T (f x) → ⊥) → T (g x) → howMany f xs < howMany g xs
@@ -102,11 +103,35 @@ module _ {A : Type 0} where
   total-bool f [] = refl
   total-bool f (x ∷ xs) = omega (arith, howMany-cons f x xs, total-bool f xs)
 
+  pub total-append : (f : A → ℕ) (xs ys : List A) → total f (xs ++ ys) ≡ total f xs + total f ys
+  total-append f [] ys = omega arith
+  total-append f (x ∷ xs) ys = omega (arith, total-append f xs ys)
+
+  pub total-keep : (f : A → ℕ) (p : A → Bool) (xs : List A) → total f (keep p xs) ≡ total (λ x. cond (p x) (f x) 0) xs
+  total-keep f p [] = refl
+  total-keep f p (x ∷ xs) = go (p x) (total-keep f p xs)
+    where
+      go : (b : Bool) {n : ℕ} → total f (keep p xs) ≡ n → total f (cond b (x ∷ keep p xs) (keep p xs)) ≡ cond b (f x) 0 + n
+      go true e = ap (λ (n : ℕ). f x + n) e
+      go false e = omega arith
+
   pub concat-append : (ss ts : List (List A)) → concat (ss ++ ts) ≡ concat ss ++ concat ts
   concat-append [] ts = refl
   concat-append (s ∷ ss) ts = ap (λ (r : List A). s ++ r) (concat-append ss ts) ∙ sym (append-assoc s (concat ss) (concat ts))
 
 module _ {A B : Type 0} where
+  pub keep-map : (f : B → Bool) (h : A → B) (xs : List A) → keep f (map h xs) ≡ map h (keep (λ x. f (h x)) xs)
+  keep-map f h [] = refl
+  keep-map f h (x ∷ xs) = go (f (h x)) (keep-map f h xs)
+    where
+      go : (b : Bool) {l : List B} → l ≡ map h (keep (λ y. f (h y)) xs) → cond b (h x ∷ l) l ≡ map h (cond b (x ∷ keep (λ y. f (h y)) xs) (keep (λ y. f (h y)) xs))
+      go true e = ap (λ (r : List B). h x ∷ r) e
+      go false e = e
+
+  pub total-map : (f : B → ℕ) (h : A → B) (xs : List A) → total f (map h xs) ≡ total (λ x. f (h x)) xs
+  total-map f h [] = refl
+  total-map f h (x ∷ xs) = ap (λ (n : ℕ). f (h x) + n) (total-map f h xs)
+
   -- the pairs (c, x) that pass P, counted either way
   pub total-swap : (P : A → B → Bool) (cs : List A) (xs : List B) → total (λ c. howMany (P c) xs) cs ≡ total (λ x. howMany (λ c. P c x) cs) xs
   total-swap P cs [] = total-zero cs

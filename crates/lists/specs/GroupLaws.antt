@@ -1,16 +1,16 @@
 -- Laws of the groups of a list by first appearance.
 use mathlib.Core.Path.{_≡_, refl, sym, ap, _∙_}
 use mathlib.Core.Logic.{_⊎_, inl, inr}
-use mathlib.Core.Bool.{Bool, false, not, cond}
+use mathlib.Core.Bool.{Bool, false, not}
 use mathlib.Core.List.{List, [], _∷_}
 use Prim.Native.Nat.{ℕ, zero, suc, _≤_, _<_, zero-le, suc-le-suc}
-use native.Mathlib.Nat.{le-refl, le-trans, not-suc-le-zero}
+use native.Mathlib.Nat.{le-refl, not-suc-le-zero}
 use native.Mathlib.Omega.{arith}
 use lib.Dec.{T, T-not, not-T}
 use lib.ListN.{length}
 use Rattle.lists.specs.Lists.{keep, lose, any, headOr, total, In, Below, groupsIn, groups}
-use Rattle.lists.specs.ListLaws.{T-true, T-false, both-ways, T-or-not, keep-in, in-keep, lose-in, in-lose, any-in, in-any, any-none, lose-keep, keep-same}
-use Rattle.lists.specs.CountLaws.{parts-length, lose-le, keep-within, keep-none}
+use Rattle.lists.specs.ListLaws.{T-true, T-false, both-ways, T-or-not, keep-in, in-keep, lose-in, in-lose, any-in, in-any, lose-keep, keep-same}
+use Rattle.lists.specs.CountLaws.{parts-length, lose-le, keep-within}
 
 module _ {A : Type 0} (s : A → A → Bool) where
   -- as many rounds as elements are enough
@@ -50,9 +50,6 @@ module _ {A : Type 0} (s : A → A → Bool) where
   -- ---- how many
   pub groups-length : (xs : List A) → total length (groups s xs) ≡ length xs
   groups-length = groups-rec (λ xs. total length (groups s xs) ≡ length xs) (rw groups-nil) (λ x xs e. rw groups-cons (omega (arith, e, parts-length (s x) xs)))
-
-  pub groups-le : (xs : List A) → length (groups s xs) ≤ length xs
-  groups-le = groups-rec (λ xs. length (groups s xs) ≤ length xs) (rw groups-nil zero-le) (λ x xs h. rw groups-cons (suc-le-suc (le-trans h (lose-le (s x) xs))))
 
   -- ---- the elements of a group are elements, and each element is in a group
   pub in-groups : (x : A) (g xs : List A) → In g (groups s xs) → In x g → In x xs
@@ -121,27 +118,6 @@ module _ {A : Type 0} (s : A → A → Bool) where
         more y ys r i j = elim (group-cases y ys g i) [
           | inl e ↦ e ∙ first y ys (elim (rw e at j) [ inl p ↦ rw p (itself y) | inr k ↦ turn y x (in-keep (s y) x ys k .1) ])
           | inr k ↦ r k j ∙ outside x y ys (in-lose (s y) x ys (in-groups x g (lose (s y) ys) k j) .1)
-        ]
-
-    -- each element is the same as those of one group, and of no other
-    pub one-group : (x : A) (xs : List A) → In x xs → keep (any (s x)) (groups s xs) ≡ keep (s x) xs ∷ []
-    one-group x = groups-rec (λ xs. In x xs → keep (any (s x)) (groups s xs) ≡ keep (s x) xs ∷ []) (λ i. absurd i) (λ y ys r i. rw groups-cons (more y ys r i))
-      where
-        more : (y : A) (ys : List A) → (In x (lose (s y) ys) → keep (any (s x)) (groups s (lose (s y) ys)) ≡ keep (s x) (lose (s y) ys) ∷ []) → In x (y ∷ ys)
-            → keep (any (s x)) ((y ∷ keep (s y) ys) ∷ groups s (lose (s y) ys)) ≡ keep (s x) (y ∷ ys) ∷ []
-        more y ys r i = elim (T-or-not (s y x)) [
-          | inl h ↦ rw (
-            T-true (s x y) (turn y x h),
-            same-tests x y ys (turn y x h),
-            keep-none (any (s x)) (groups s (lose (s y) ys)) (λ g k u. let z = in-any (s x) g u in T-not (s y (z .0))
-                (in-lose (s y) (z .0) ys (in-groups (z .0) g (lose (s y) ys) k (z .1)) .1) (join y x (z .0) h (z .2))),
-          )
-          | inr n ↦
-              let no : (z : A) → In z (y ∷ keep (s y) ys) → T (s x z) → ⊥ =
-              λ z k t. T-not (s y x) n (elim k [ inl e ↦ turn x y (rw e at t) | inr j ↦ join y z x (in-keep (s y) z ys j .1) (turn x z t) ]) in
-              let j : In x (lose (s y) ys) = elim i [ inl e ↦ absurd (T-not (s y y) (rw e at n) (itself y)) | inr k ↦ lose-in (s y) x ys k n ] in
-              let G : List (List A) = keep (any (s x)) (groups s (lose (s y) ys)) in
-              ap (λ (b : Bool). cond b ((y ∷ keep (s y) ys) ∷ G) G) (any-none (s x) (y ∷ keep (s y) ys) no) ∙ r j ∙ ap (λ (l : List A). l ∷ []) (outside x y ys n)
         ]
 
 -- ---- groups of elements below n

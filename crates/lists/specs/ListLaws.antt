@@ -67,14 +67,6 @@ pub bit-eqb : (b : Bool) → eqb (cond b 1 0) 1 ≡ b
 bit-eqb true = refl
 bit-eqb false = refl
 
-pub bit-true : (b : Bool) (x : ℕ) → x ≡ cond b 1 0 → x ≡ 1 → b ≡ true
-bit-true true x e h = refl
-bit-true false x e h = absurd (omega arith)
-
-pub bit-false : (b : Bool) (x : ℕ) → x ≡ cond b 1 0 → (x ≡ 1 → ⊥) → b ≡ false
-bit-false true x e h = absurd (h e)
-bit-false false x e h = refl
-
 pub nonzero-true : (n : ℕ) → (n ≡ 0 → ⊥) → nonzero n ≡ true
 nonzero-true zero f = absurd (f refl)
 nonzero-true (suc n) f = refl
@@ -186,6 +178,10 @@ module _ {A : Type 0} where
   in-map f y (x ∷ xs) (inl e) = (x, inl refl, e)
   in-map f y (x ∷ xs) (inr i) = let z = in-map f y xs i in (z .0, inr (z .1), z .2)
 
+  pub map-same : {B : Type 0} (f h : A → B) (xs : List A) → ((x : A) → In x xs → f x ≡ h x) → map f xs ≡ map h xs
+  map-same f h [] e = refl
+  map-same f h (x ∷ xs) e = ap₂ _∷_ (e x (inl refl)) (map-same f h xs (λ y i. e y (inr i)))
+
   pub at-in : (d : A) (xs : List A) (i : ℕ) → i < length xs → In (getD xs i d) xs
   at-in d [] i h = absurd (not-suc-le-zero h)
   at-in d (x ∷ xs) zero h = inl refl
@@ -194,6 +190,10 @@ module _ {A : Type 0} where
   pub in-nonzero : (x : A) (xs : List A) → In x xs → T (nonzero (length xs))
   in-nonzero x [] i = i
   in-nonzero x (y ∷ ys) i = tt
+
+  pub in-some : (x : A) (xs : List A) → In x xs → 0 < length xs
+  in-some x [] i = absurd i
+  in-some x (y ∷ ys) i = omega arith
 
   pub some-in : (xs : List A) → T (nonzero (length xs)) → (x : A) × In x xs
   some-in [] h = absurd h

@@ -1,19 +1,19 @@
--- Loops over the numbers below n: a search, a count that may stop early, a column that is filled, what passes a test gathered.
+-- Loops: a search, the words of a part that pass a test counted, a sum over numbers that may stop early, a column that is filled, what passes a test gathered.
 use mathlib.Core.Path.{_≡_, refl, sym, ap, ap₂, _∙_}
 use mathlib.Core.Bool.{Bool, true, false, cond}
 use mathlib.Core.List.{List, [], _∷_, _++_, append-nil}
 use Prim.Native.Nat.{ℕ, suc, _+_, _-_, _<_, _≤_}
 use native.Mathlib.Omega.{arith}
-use native.Mathlib.Nat.{zero-add}
 use native.Mathlib.Numerals.{add-one}
 use lib.Dec.{leb, leb→le, le→leb}
-use lib.ListN.{length, set, length-append}
-use Rattle.lists.specs.Lists.{from, numbers, keep, any, howMany, headOr}
+use lib.ListN.{length, getD, set, length-append}
+use Rattle.lists.specs.Lists.{from, numbers, keep, howMany, total, headOr}
 use Rattle.lists.specs.Words.{over, part, column, rest}
 use Rattle.lists.specs.ListLaws.{T-true, T-false, length-numbers}
+use Rattle.lists.specs.CountLaws.{howMany-cons}
 use Rattle.lists.specs.OrderLaws.{kept-snoc, kept-le}
 use Rattle.lists.specs.WordLaws.{over-length, over-nil, over-snoc}
-use Rattle.lists.specs.PartLaws.{part-under, part-above, column-snoc}
+use Rattle.lists.specs.PartLaws.{part-under, part-first, column-snoc}
 
 -- ---- what is left of the numbers
 pub rest-start : (n : ℕ) → rest n 0 ≡ numbers n
@@ -34,12 +34,6 @@ module _ (f : ℕ → Bool) (n j : ℕ) (more : j < n) where
   pub keep-miss : f j ≡ false → keep f (rest n j) ≡ keep f (rest n (j + 1))
   keep-miss e = rw (rest-step n j more, e)
 
-  pub any-hit : f j ≡ true → any f (rest n j) ≡ true
-  any-hit e = rw (rest-step n j more, e)
-
-  pub any-miss : f j ≡ false → any f (rest n j) ≡ any f (rest n (j + 1))
-  any-miss e = rw (rest-step n j more, e)
-
 -- ---- the first that passes f: `first` is what the search is for, d if there is none
 pub record Search (f : ℕ → Bool) (n d first j : ℕ) : Type 0 where
   pub high : j ≤ n
@@ -59,28 +53,64 @@ module _ (f : ℕ → Bool) (n d : ℕ) where
     pub search-end : n ≤ j → d ≡ first
     search-end h = ap (λ (l : List ℕ). headOr d (keep f l)) (sym (rest-end n j h)) ∙ c .left
 
--- ---- whether `least` pass f: m of those before j do
-pub record Tally (f : ℕ → Bool) (n least m j : ℕ) : Type 0 where
+-- ---- the words from place p to the end: `all` of those from the start on pass f, and m of those before p
+pub record Scan (f : ℕ → Bool) (w : List ℕ) (base end all m p : ℕ) : Type 0 where
+  pub fit : base + end ≤ length w
+  pub high : p ≤ end
+  pub low : m ≤ p
+  pub sum : m + howMany f (part w (base + p) (end - p)) ≡ all
+
+pub scan-start : {f : ℕ → Bool} {w : List ℕ} {base end p : ℕ} {xs : List ℕ} → base + end ≤ length w → p ≤ end → part w (base + p) (end - p) ≡ xs → Scan f w base end (howMany f xs) 0 p
+scan-start {f} {w} {base} {end} {p} h l e = record { fit = h; high = l; low = omega arith; sum = omega (arith, ap (howMany f) e) }
+
+module _ {f : ℕ → Bool} {w : List ℕ} {base end all m p : ℕ} (s : Scan f w base end all m p) where
+  module _ (l : p < end) where
+    first : part w (base + p) (end - p) ≡ getD w (base + p) 0 ∷ part w (base + (p + 1)) (end - (p + 1))
+    first =
+        let e : end - p ≡ end - (p + 1) + 1 = omega arith in
+        let q : base + p + 1 ≡ base + (p + 1) = omega arith in
+        ap (part w (base + p)) e ∙ part-first w (base + p) (end - (p + 1)) (omega (arith, s .fit)) ∙ ap (λ (a : ℕ). getD w (base + p) 0 ∷ part w a (end - (p + 1))) q
+
+    left : (b : Bool) → f (getD w (base + p) 0) ≡ b → howMany f (part w (base + p) (end - p)) ≡ cond b 1 0 + howMany f (part w (base + (p + 1)) (end - (p + 1)))
+    left b t = ap (howMany f) first ∙ howMany-cons f (getD w (base + p) 0) (part w (base + (p + 1)) (end - (p + 1))) ∙ ap (λ (a : Bool). cond a 1 0 + howMany f (part w (base + (p + 1)) (end - (p + 1)))) t
+
+    module _ {x : ℕ} (q : x ≡ getD w (base + p) 0) where
+      pub scan-hit : f x ≡ true → Scan f w base end all (m + 1) (p + 1)
+      scan-hit t = record { fit = s .fit; high = omega arith; low = omega (arith, s .low); sum = omega (arith, s .sum, left true (ap f (sym q) ∙ t)) }
+
+      pub scan-miss : f x ≡ false → Scan f w base end all m (p + 1)
+      scan-miss t = record { fit = s .fit; high = omega arith; low = omega (arith, s .low); sum = omega (arith, s .sum, left false (ap f (sym q) ∙ t)) }
+
+  pub scan-end : end ≤ p → m ≡ all
+  scan-end l =
+      let e : end - p ≡ 0 = omega arith in
+      omega (arith, s .sum, ap (λ (k : ℕ). howMany f (part w (base + p) k)) e)
+
+-- ---- whether a sum of f over the numbers below n is at least `least`: m is the sum of those before j
+pub record Sum (f : ℕ → ℕ) (n least m j : ℕ) : Type 0 where
   pub high : j ≤ n
-  pub sum : m + howMany f (rest n j) ≡ howMany f (numbers n)
+  pub sum : m + total f (rest n j) ≡ total f (numbers n)
   pub low : m < least
 
-module _ (f : ℕ → Bool) (n least : ℕ) where
-  pub tally-start : 0 < least → Tally f n least 0 0
-  tally-start h = record { high = omega arith; sum = zero-add (howMany f (rest n 0)) ∙ ap (howMany f) (rest-start n); low = h }
+pub sum-start : {f : ℕ → ℕ} {n least : ℕ} → 0 < least → Sum f n least 0 0
+sum-start {f} {n} h = record { high = omega arith; sum = omega (arith, ap (total f) (rest-start n)); low = h }
 
-  module _ {m j : ℕ} (c : Tally f n least m j) where
-    pub tally-stop : j < n → f j ≡ true → least ≤ m + 1 → leb least (howMany f (numbers n)) ≡ true
-    tally-stop h t k = T-true (leb least (howMany f (numbers n))) (le→leb least (howMany f (numbers n)) (omega (arith, c .sum, ap length (keep-hit f n j h t))))
+module _ {f : ℕ → ℕ} {n least m j : ℕ} (s : Sum f n least m j) where
+  module _ (h : j < n) {x : ℕ} (e : x ≡ f j) where
+    pub sum-le : m + x ≤ total f (numbers n)
+    sum-le = omega (arith, e, s .sum, ap (total f) (rest-step n j h))
 
-    pub tally-hit : j < n → f j ≡ true → m + 1 < least → Tally f n least (m + 1) (j + 1)
-    tally-hit h t k = record { high = omega arith; sum = omega (arith, c .sum, ap length (keep-hit f n j h t)); low = k }
+    pub sum-stop : least ≤ m + x → leb least (total f (numbers n)) ≡ true
+    sum-stop k = T-true (leb least (total f (numbers n))) (le→leb least (total f (numbers n)) (omega (arith, sum-le)))
 
-    pub tally-miss : j < n → f j ≡ false → Tally f n least m (j + 1)
-    tally-miss h t = record { high = omega arith; sum = omega (arith, c .sum, ap length (keep-miss f n j h t)); low = c .low }
+    pub sum-more : m + x < least → Sum f n least (m + x) (j + 1)
+    sum-more k = record { high = omega arith; sum = omega (arith, e, s .sum, ap (total f) (rest-step n j h)); low = k }
 
-    pub tally-end : n ≤ j → leb least (howMany f (numbers n)) ≡ false
-    tally-end h = T-false (leb least (howMany f (numbers n))) (λ t. omega (arith, leb→le least (howMany f (numbers n)) t, c .low, c .sum, ap (howMany f) (rest-end n j h)))
+  pub sum-skip : j < n → f j ≡ 0 → Sum f n least m (j + 1)
+  sum-skip h e = record { high = omega arith; sum = omega (arith, e, s .sum, ap (total f) (rest-step n j h)); low = s .low }
+
+  pub sum-end : n ≤ j → leb least (total f (numbers n)) ≡ false
+  sum-end h = T-false (leb least (total f (numbers n))) (λ t. omega (arith, leb→le least (total f (numbers n)) t, s .low, s .sum, ap (total f) (rest-end n j h)))
 
 -- ---- a column is filled
 pub record Fill {A : Type 0} (h : ℕ → A) (w₀ : List A) (a n : ℕ) (v : List A) (i : ℕ) : Type 0 where
@@ -107,9 +137,6 @@ module _ {A : Type 0} {h : ℕ → A} {w₀ : List A} {a n : ℕ} {v : List A} {
   pub fill-under : (b m : ℕ) → b + m ≤ a → part v b m ≡ part w₀ b m
   fill-under b m k = ap (λ (z : List A). part z b m) (c .work) ∙ part-under w₀ b m a (column h i) k (omega (arith, c .fit))
 
-  pub fill-above : (b m : ℕ) → a + n ≤ b → part v b m ≡ part w₀ b m
-  fill-above b m k = ap (λ (z : List A). part z b m) (c .work) ∙ part-above w₀ b m a (column h i) (omega (arith, length-numbers h i, c .high)) (omega (arith, c .fit))
-
   pub fill-end : n ≤ i → v ≡ over w₀ a (column h n)
   fill-end k = let e : i ≡ n = omega (arith, c .high) in c .work ∙ ap (λ (z : ℕ). over w₀ a (column h z)) e
 
@@ -132,9 +159,6 @@ module _ {f : ℕ → Bool} {w₀ : List ℕ} {a n : ℕ} {v : List ℕ} {k i : 
 
   pub gather-length : length v ≡ length w₀
   gather-length = ap length (c .work) ∙ over-length w₀ a K (omega (arith, kept-le f i, c .high, c .fit))
-
-  pub gather-under : (b m : ℕ) → b + m ≤ a → part v b m ≡ part w₀ b m
-  gather-under b m h = ap (λ (z : List ℕ). part z b m) (c .work) ∙ part-under w₀ b m a K h (omega (arith, c .fit))
 
   pub gather-hit : i < n → f i ≡ true → Gather f w₀ a n (set v (a + k) i) (k + 1) (i + 1)
   gather-hit h t =

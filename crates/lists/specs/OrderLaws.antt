@@ -3,22 +3,27 @@ use mathlib.Core.Path.{_≡_, refl, sym, ap, ap₂, _∙_}
 use mathlib.Core.Logic.{inl, inr}
 use mathlib.Core.Bool.{Bool, true, false, _&&_, cond, and-true, and-false}
 use mathlib.Core.List.{List, [], _∷_, _++_, append-nil}
-use Prim.Native.Nat.{ℕ, zero, suc, _+_, _≤_, _<_}
-use native.Mathlib.Nat.{le-of-eq, le-of-lt, lt-trans, lt-irrefl, add-zero, zero-add}
+use Prim.Native.Nat.{ℕ, zero, suc, _+_, _-_, _≤_, _<_}
+use native.Mathlib.Nat.{le-of-eq, le-of-suc-le-suc, not-suc-le-zero, le-of-lt, lt-trans, lt-irrefl, add-zero, zero-add}
 use native.Mathlib.Numerals.{add-one}
 use native.Mathlib.Omega.{arith}
-use lib.Dec.{eqb, ltb, ltb→lt, lt→ltb, eqb→eq, eqb-refl}
+use lib.Dec.{T, eqb, ltb, ltb→lt, lt→ltb, eqb→eq, eqb-refl}
 use lib.ListN.{length, getD, length-append}
 use Rattle.lists.specs.Lists.{from, numbers, keep, lose, howMany, headOr, In, Below, Ascending}
 use Rattle.lists.specs.ListLaws.{T-true, T-false, in-keep, in-lose, at-in, keep-same, in-from, in-numbers, length-from}
 use Rattle.lists.specs.CountLaws.{keep-append, keep-le, keep-none, keep-fewer}
 
+-- ---- numbers after numbers
+from-add : (a m n : ℕ) → from a (m + n) ≡ from a m ++ from (a + m) n
+from-add a zero n = let e : a ≡ a + 0 = omega arith in ap₂ from e (zero-add n)
+from-add a (suc m) n =
+    let e : suc m + n ≡ suc (m + n) = omega arith in
+    let f : suc a + m ≡ a + suc m = omega arith in
+    ap (from a) e ∙ ap (λ (l : List ℕ). a ∷ l) (from-add (suc a) m n ∙ ap (λ (b : ℕ). from (suc a) m ++ from b n) f)
+
 -- ---- one number more
 pub from-snoc : (a n : ℕ) → from a (suc n) ≡ from a n ++ ((a + n) ∷ [])
-from-snoc a zero = ap (λ (z : ℕ). z ∷ []) (sym (add-zero a))
-from-snoc a (suc n) =
-    let e : suc a + n ≡ a + suc n = omega arith in
-    ap (λ (z : List ℕ). a ∷ z) (from-snoc (suc a) n ∙ ap (λ (z : ℕ). from (suc a) n ++ (z ∷ [])) e)
+from-snoc a n = ap (from a) (sym (add-one n)) ∙ from-add a n 1
 
 pub numbers-snoc : (n : ℕ) → numbers (n + 1) ≡ numbers n ++ (n ∷ [])
 numbers-snoc n = ap numbers (add-one n) ∙ from-snoc 0 n ∙ ap (λ (z : ℕ). numbers n ++ (z ∷ [])) (zero-add n)
@@ -51,12 +56,26 @@ module _ (f : ℕ → Bool) where
       ∙ ap₂ (λ (l : List ℕ) (b : Bool). l ++ cond (f (r + k) && b) ((r + k) ∷ []) []) (keep-low r k) q
       ∙ rw (and-false (f (r + k))) (append-nil (keep f (numbers r)))
 
+-- ---- the numbers below i, then the others
+pub kept-split : (f : ℕ → Bool) (i n : ℕ) → i ≤ n → keep f (numbers n) ≡ keep f (numbers i) ++ keep f (from i (n - i))
+kept-split f i n h =
+    let e : n ≡ i + (n - i) = omega arith in
+    ap (λ (m : ℕ). keep f (numbers m)) e ∙ ap (keep f) (from-add 0 i (n - i) ∙ ap (λ (a : ℕ). numbers i ++ from a (n - i)) (zero-add i)) ∙ keep-append f (numbers i) (from i (n - i))
+
+-- a number that passes, below i: fewer pass below it
+pub many-less : (f : ℕ → Bool) (j i : ℕ) → j < i → T (f j) → howMany f (numbers j) < howMany f (numbers i)
+many-less f j i h t =
+    omega (
+      arith,
+      ap length (kept-split f (j + 1) i (omega arith)),
+      length-append (keep f (numbers (j + 1))) (keep f (from (j + 1) (i - (j + 1)))),
+      many-snoc f j,
+      ap (λ (b : Bool). cond {A = ℕ} b 1 0) (T-true (f j) t),
+    )
+
 -- ---- below n
 pub below-at : (n : ℕ) (xs : List ℕ) (i : ℕ) → Below n xs → i < length xs → getD xs i 0 < n
 below-at n xs i h k = h (getD xs i 0) (at-in 0 xs i k)
-
-pub keep-below : (n : ℕ) (f : ℕ → Bool) (xs : List ℕ) → Below n xs → Below n (keep f xs)
-keep-below n f xs h x i = h x (in-keep f x xs i .0)
 
 pub lose-below : (n : ℕ) (f : ℕ → Bool) (xs : List ℕ) → Below n xs → Below n (lose f xs)
 lose-below n f xs h x i = h x (in-lose f x xs i .0)
@@ -113,6 +132,15 @@ module _ {x : ℕ} where
   rank-at d [] a i = absurd i
   rank-at d (y ∷ ys) a (inl e) = ap (λ (l : List ℕ). getD (y ∷ ys) (length l) d) (keep-none (λ c. ltb c x) (y ∷ ys) (λ z i t. omega (arith, head-lowest d (y ∷ ys) a z i, ltb→lt z x t))) ∙ sym e
   rank-at d (y ∷ ys) a (inr i) = rw (T-true (ltb y x) (lt→ltb y x (a .0 x i))) (rank-at d ys (a .1) i)
+
+-- an element of an ascending list has as many lower ones as stand before it
+pub at-rank : (d : ℕ) (xs : List ℕ) (i : ℕ) → Ascending xs → i < length xs → howMany (λ c. ltb c (getD xs i d)) xs ≡ i
+at-rank d [] i a h = absurd (not-suc-le-zero h)
+at-rank d (x ∷ xs) zero a h = ap length (keep-none (λ c. ltb c x) (x ∷ xs) (λ z i t. omega (arith, head-lowest d (x ∷ xs) a z i, ltb→lt z x t)))
+at-rank d (x ∷ xs) (suc i) a h =
+    let y = getD xs i d in
+    let l : i < length xs = le-of-suc-le-suc h in
+    rw (T-true (ltb x y) (lt→ltb x y (a .0 y (at-in d xs i l)))) (ap suc (at-rank d xs i (a .1) l))
 
 -- a lower element has the lower place
 pub rank-less : (x y : ℕ) (xs : List ℕ) → In x xs → x < y → howMany (λ c. ltb c x) xs < howMany (λ c. ltb c y) xs

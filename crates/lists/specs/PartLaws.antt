@@ -29,6 +29,9 @@ module _ {A : Type 0} where
   slice-part (x ∷ xs) (suc a) zero = let e : 0 ≡ 0 - suc a = omega arith in ap (λ (k : ℕ). take k (drop a xs)) e
   slice-part (x ∷ xs) (suc a) (suc t) = let e : t - a ≡ suc t - suc a = omega arith in slice-part xs a t ∙ ap (λ (k : ℕ). take k (drop a xs)) e
 
+  pub part-part : (xs : List A) (a n b m : ℕ) → b + m ≤ n → part (part xs a n) b m ≡ part xs (a + b) m
+  part-part xs a n b m h = ap (take m) (slice-part (drop a xs) b n) ∙ take-take m (n - b) (drop b (drop a xs)) (omega arith) ∙ ap (take m) (drop-drop b a xs)
+
   -- ---- beside what was laid
   module _ (xs : List A) (b : ℕ) (ws : List A) (fit : b ≤ length xs) where
     lb : length (take b xs) ≡ b

@@ -119,6 +119,15 @@ module _ {A : Type 0} where
   pub over-before : (xs : List A) (a b : ℕ) (us vs : List A) → b ≡ a + length us → b + length vs ≤ length xs → over (over xs b vs) a us ≡ over xs a (us ++ vs)
   over-before xs a b us vs p h = sym (over-apart xs a b us vs (omega arith) h) ∙ over-next xs a b us vs p h
 
+  -- words after those of two regions
+  pub over-grow : (w : List A) (a b i j : ℕ) (us vs xs ys : List A) → i ≡ a + length us → j ≡ b + length vs → i + length xs ≤ b → j + length ys ≤ length w
+      → over (over (over (over w a us) b vs) i xs) j ys ≡ over (over w a (us ++ xs)) b (vs ++ ys)
+  over-grow w a b i j us vs xs ys p q h k =
+      let l : length (over w a us) ≡ length w = over-length w a us (omega arith) in
+      let m : length (over w a (us ++ xs)) ≡ length w = over-length w a (us ++ xs) (omega (arith, length-append us xs)) in
+      ap (λ (z : List A). over z j ys) (sym (over-apart (over w a us) i b xs vs h (omega arith)) ∙ ap (λ (z : List A). over z b vs) (over-next w a i us xs p (omega arith)))
+      ∙ over-next (over w a (us ++ xs)) b j vs ys q (omega arith)
+
   -- ---- one word more
   pub over-snoc : (xs : List A) (a i : ℕ) (ws : List A) (x : A) → i ≡ a + length ws → i < length xs → set (over xs a ws) i x ≡ over xs a (ws ++ (x ∷ []))
   over-snoc xs a i ws x p h =

@@ -1,12 +1,11 @@
 // Sets of cells as leader numbers in lent words, after the `partitions` crate's `PartitionVec`.
+use lists::Word;
 ghost use mathlib.Core.Path.{_≡_};
 ghost use Prim.Native.Nat.{_<_, _≤_};
 ghost use lib.Dec.{eqb};
 ghost use lib.ListN.{length};
 ghost use Rattle.lists.specs.Words.{column};
 ghost use Rattle.partitions.specs.Leaders.{Falling, root, shorten, shortenBoth, united};
-
-type Word = u16;
 
 // Each cell a set by itself.
 pub fn reset(leaders: &mut [Word])

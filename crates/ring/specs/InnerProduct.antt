@@ -1,58 +1,51 @@
--- Lists of integers as vectors: the inequalities of Cauchy and Schwarz, and of Minkowski by squares, with no root.
-use mathlib.Core.Path.{_≡_, sym}
+-- Lists of natural numbers as vectors: the inequality of Cauchy and Schwarz, and the triangle inequality by squares, with no root.
 use mathlib.Core.List.{List, [], _∷_}
-use lib.IntN.{ℤ, pos, _+ℤ_, _-ℤ_, _*ℤ_}
-use Rattle.ring.specs.Ring.{ring, poly, done, _⊖_}
-use Rattle.ring.specs.Order.{_≼_, below, sq, num, slack, _⊞_, _⊠_, nil, diff, equal, square-cancel}
+use Prim.Native.Nat.{ℕ, _+_, _*_, _≤_}
+use native.Mathlib.Omega.{arith}
+use lib.IntN.{pos}
+use Rattle.ring.specs.Ring.{poly, done, _⊖_}
+use Rattle.ring.specs.Order.{belowℕ, sq, num, slackℕ, _⊞_, _⊠_}
+use Rattle.ring.specs.Nat.{sq-le-back}
 
 -- Σ u v, over the shorter list
-abbrev pub dot : List ℤ → List ℤ → ℤ
-dot [] vs = pos 0
-dot (u ∷ us) [] = pos 0
-dot (u ∷ us) (v ∷ vs) = u *ℤ v +ℤ dot us vs
+abbrev pub dot : List ℕ → List ℕ → ℕ
+dot [] vs = 0
+dot (u ∷ us) [] = 0
+dot (u ∷ us) (v ∷ vs) = u * v + dot us vs
 
 -- Σ u²
-abbrev pub norm-sq : List ℤ → ℤ
-norm-sq [] = pos 0
-norm-sq (u ∷ us) = u *ℤ u +ℤ norm-sq us
+abbrev pub squares : List ℕ → ℕ
+squares [] = 0
+squares (u ∷ us) = u * u + squares us
 
--- u + v, a missing number being zero
-abbrev pub plus : List ℤ → List ℤ → List ℤ
-plus [] vs = vs
-plus (u ∷ us) [] = u ∷ us
-plus (u ∷ us) (v ∷ vs) = (u +ℤ v) ∷ plus us vs
-
-pub norm-sq-nonneg : (us : List ℤ) → pos 0 ≼ norm-sq us
-norm-sq-nonneg [] = num 0
-norm-sq-nonneg (u ∷ us) = sq u ⊞ norm-sq-nonneg us
-
--- Σ (x v - y u)², multiplied out, is not negative
-cross-nonneg : (x y : ℤ) (us vs : List ℤ) → pos 0 ≼ x *ℤ x *ℤ norm-sq vs -ℤ pos 2 *ℤ x *ℤ y *ℤ dot us vs +ℤ y *ℤ y *ℤ norm-sq us
-cross-nonneg x y [] vs = below (x ∷ y ∷ norm-sq vs ∷ []) (sq x ⊠ norm-sq-nonneg vs) (search poly depth 30) done
-cross-nonneg x y (u ∷ us) [] = below (x ∷ y ∷ u ∷ norm-sq us ∷ []) (sq y ⊠ (sq u ⊞ norm-sq-nonneg us)) (search poly depth 30) done
-cross-nonneg x y (u ∷ us) (v ∷ vs) =
-    below (x ∷ y ∷ u ∷ v ∷ norm-sq us ∷ norm-sq vs ∷ dot us vs ∷ []) (sq (x *ℤ v ⊖ y *ℤ u) ⊞ cross-nonneg x y us vs) (search poly depth 30) done
+-- 2 x y Σ u v ≤ x² Σ v² + y² Σ u², since Σ (x v - y u)² is not negative
+cross : (x y : ℕ) (us vs : List ℕ) → 2 * (x * y * dot us vs) ≤ x * x * squares vs + y * y * squares us
+cross x y [] vs = omega arith
+cross x y (u ∷ us) [] = omega arith
+cross x y (u ∷ us) (v ∷ vs) =
+    belowℕ (x ∷ y ∷ u ∷ v ∷ squares us ∷ squares vs ∷ dot us vs ∷ []) (sq (pos (x * v) ⊖ pos (y * u)) ⊞ slackℕ (cross x y us vs)) (search poly depth 30) done
 
 -- (Σ u v)² ≤ Σ u² · Σ v²
-pub cauchy-schwarz : (us vs : List ℤ) → dot us vs *ℤ dot us vs ≼ norm-sq us *ℤ norm-sq vs
-cauchy-schwarz [] vs = below (norm-sq vs ∷ []) (num 0) (search poly depth 30) done
-cauchy-schwarz (u ∷ us) [] = below (u ∷ norm-sq us ∷ []) (num 0) (search poly depth 30) done
+pub cauchy-schwarz : (us vs : List ℕ) → dot us vs * dot us vs ≤ squares us * squares vs
+cauchy-schwarz [] vs = omega arith
+cauchy-schwarz (u ∷ us) [] = omega arith
 cauchy-schwarz (u ∷ us) (v ∷ vs) =
-    below (u ∷ v ∷ norm-sq us ∷ norm-sq vs ∷ dot us vs ∷ []) (slack (cauchy-schwarz us vs) ⊞ cross-nonneg u v us vs) (search poly depth 30) done
+    belowℕ (u ∷ v ∷ squares us ∷ squares vs ∷ dot us vs ∷ []) (slackℕ (cauchy-schwarz us vs) ⊞ slackℕ (cross u v us vs)) (search poly depth 30) done
 
-norm-sq-plus : (us vs : List ℤ) → norm-sq (plus us vs) ≡ norm-sq us +ℤ pos 2 *ℤ dot us vs +ℤ norm-sq vs
-norm-sq-plus [] vs = ring (norm-sq vs ∷ []) (search poly depth 30) done
-norm-sq-plus (u ∷ us) [] = ring (u ∷ norm-sq us ∷ []) (search poly depth 30) done
-norm-sq-plus (u ∷ us) (v ∷ vs) =
-    equal (u ∷ v ∷ norm-sq (plus us vs) ∷ norm-sq us ∷ norm-sq vs ∷ dot us vs ∷ []) (diff (norm-sq-plus us vs)) (search poly depth 30) done
+-- w ≤ u + v in each place
+pub data Tri : List ℕ → List ℕ → List ℕ → Type 0 where
+  none : Tri [] [] []
+  more : {w u v : ℕ} {ws us vs : List ℕ} → w ≤ u + v → Tri ws us vs → Tri (w ∷ ws) (u ∷ us) (v ∷ vs)
 
--- Σ u v ≤ A B, where Σ u² ≤ A² and Σ v² ≤ B²
-pub dot-le : (us vs : List ℤ) {A B : ℤ} → pos 0 ≼ A → pos 0 ≼ B → norm-sq us ≼ A *ℤ A → norm-sq vs ≼ B *ℤ B → dot us vs ≼ A *ℤ B
-dot-le us vs {A} {B} a b h k = square-cancel (a ⊠ b)
-    (below (A ∷ B ∷ norm-sq us ∷ norm-sq vs ∷ dot us vs ∷ []) (slack (cauchy-schwarz us vs) ⊞ norm-sq-nonneg us ⊠ slack k ⊞ slack h ⊠ sq B) (search poly depth 30) done)
+multiplied-out : {ws us vs : List ℕ} → Tri ws us vs → squares ws ≤ squares us + 2 * dot us vs + squares vs
+multiplied-out none = omega arith
+multiplied-out (more {w} {u} {v} {ws} {us} {vs} h t) =
+    belowℕ (w ∷ u ∷ v ∷ squares ws ∷ squares us ∷ squares vs ∷ dot us vs ∷ []) (slackℕ h ⊠ num (u + v + w) ⊞ slackℕ (multiplied-out t)) (search poly depth 30) done
 
--- Σ (u + v)² ≤ (A + B)²
-pub minkowski : (us vs : List ℤ) {A B : ℤ} → pos 0 ≼ A → pos 0 ≼ B → norm-sq us ≼ A *ℤ A → norm-sq vs ≼ B *ℤ B → norm-sq (plus us vs) ≼ (A +ℤ B) *ℤ (A +ℤ B)
-minkowski us vs {A} {B} a b h k =
-    below (A ∷ B ∷ norm-sq (plus us vs) ∷ norm-sq us ∷ norm-sq vs ∷ dot us vs ∷ [])
-    (slack h ⊞ slack k ⊞ num 2 ⊠ slack (dot-le us vs a b h k) ⊞ nil (diff (sym (norm-sq-plus us vs)))) (search poly depth 30) done
+-- where u is no longer than A and v no longer than B, w is no longer than A + B
+pub triangle : (A B : ℕ) {ws us vs : List ℕ} → Tri ws us vs → squares us ≤ A * A → squares vs ≤ B * B → squares ws ≤ (A + B) * (A + B)
+triangle A B {ws} {us} {vs} t h k = omega (arith, multiplied-out t, product)
+  where
+    product : dot us vs ≤ A * B
+    product = sq-le-back (dot us vs) (A * B)
+        (belowℕ (A ∷ B ∷ squares us ∷ squares vs ∷ dot us vs ∷ []) (slackℕ (cauchy-schwarz us vs) ⊞ num (squares us) ⊠ slackℕ k ⊞ slackℕ h ⊠ sq (pos B)) (search poly depth 30) done)

@@ -3,7 +3,6 @@ pub mod Poly
 pub mod Ring
 pub mod Order
 pub mod Linear
-pub mod Abs
-pub mod PowTwo
+pub mod Nat
 pub mod InnerProduct
 pub mod Examples

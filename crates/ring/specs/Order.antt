@@ -3,15 +3,14 @@
 -- A certificate is built of `sq z`, `num n`, `slack h` for h : a ≼ b, `slackℕ h` for h : m ≤ n, `nil (diff e)` for an equation e,
 -- and of sums `⊞` and products `⊠` of these. If it is wrong, the message shows the polynomial that is left.
 use mathlib.Core.Path.{_≡_, sym, ap, ap₂, _∙_, subst, subst₂}
-use mathlib.Core.Logic.{_⊎_, inl, inr}
 use mathlib.Core.List.{List, [], _∷_}
-use mathlib.Core.Bool.{Bool, true, false, not, cond}
+use mathlib.Core.Bool.{Bool, true, false, cond}
 use Prim.Native.Nat.{ℕ, zero, suc, _+_, _*_, _-_, _≤_}
 use native.Mathlib.Nat.{le-add-right, add-sub-of-le}
 use native.Mathlib.Omega.{arith}
 use lib.Dec.{T, ltb, leb→le, le→leb, leb·zero, leb·suc-zero, leb·suc-suc}
-use lib.IntN.{ℤ, pos, negsuc, negℤ, _+ℤ_, _*ℤ_, sucℤ, natAbs, +ℤ-idl, +ℤ-idr, +ℤ-one, +ℤ-invr, *ℤ-zero}
-use lib.Signed.{leZ, ltZ, _≤ℤ_, _<ℤ_, leZ-yes, ltZ-yes, ltZ-no, ≤ℤ-refl}
+use lib.IntN.{ℤ, pos, negsuc, _+ℤ_, _*ℤ_, sucℤ, natAbs, +ℤ-idl, +ℤ-idr, +ℤ-one, +ℤ-invr, *ℤ-zero}
+use lib.Signed.{leZ, ltZ, _≤ℤ_, _<ℤ_, leZ-yes, ltZ-yes, ≤ℤ-refl}
 use Rattle.ring.specs.Ring.{Sides, rest, Left, done, ring, ints, poly, _⊖_}
 
 -- the order of `lib.Signed`, which binds tighter than a sum, under names that bind looser
@@ -142,26 +141,8 @@ pub nil : {d : ℤ} → d ≡ pos 0 → pos 0 ≼ d
 nil e = le-of-gap 0 e
 
 -- ---- the order's laws
-pub ≼-trans : {a b c : ℤ} → a ≼ b → b ≼ c → a ≼ c
-≼-trans {a} {b} {c} h k = below (a ∷ b ∷ c ∷ []) (slack h ⊞ slack k) (search poly depth 9) done
-
 pub ≼-of-eq : {a b : ℤ} → a ≡ b → a ≼ b
 ≼-of-eq {a} e = subst (λ z. a ≼ z) e (≤ℤ-refl a)
-
-pub ≼-or-≺ : (a b : ℤ) → (a ≼ b) ⊎ (b ≺ a)
-≼-or-≺ a b = go (ltZ b a) (λ t. t) (λ t. t)
-  where
-    go : (c : Bool) → (T c → T (ltZ b a)) → (T (not c) → T (not (ltZ b a))) → (a ≼ b) ⊎ (b ≺ a)
-    go true f g = inr (ltZ-yes (f tt))
-    go false f g = inl (ltZ-no (g tt))
-
--- to prove a ≼ b, refute b + 1 ≼ a
-pub ≼-by-contra : {a b : ℤ} → (b +ℤ pos 1 ≼ a → ⊥) → a ≼ b
-≼-by-contra {a} {b} f = go (≼-or-≺ a b)
-  where
-    go : (a ≼ b) ⊎ (b ≺ a) → a ≼ b
-    go (inl h) = h
-    go (inr k) = absurd (f (add-one-le-of-lt k))
 
 pub ≼-antisym : {a b : ℤ} → a ≼ b → b ≼ a → a ≡ b
 ≼-antisym {a} {b} h k = go (gap h .0) (gap h .1)
@@ -169,30 +150,6 @@ pub ≼-antisym : {a b : ℤ} → a ≼ b → b ≼ a → a ≡ b
     go : (n : ℕ) → b ≡ a +ℤ pos n → a ≡ b
     go zero e = sym (e ∙ +ℤ-idr a)
     go (suc n) e = absurd (refute (a ∷ b ∷ pos n ∷ []) (slack k ⊞ num n ⊞ nil (diff e)) (search poly depth 9) done)
-
-pub add-mono : {a b c d : ℤ} → a ≼ b → c ≼ d → a +ℤ c ≼ b +ℤ d
-add-mono {a} {b} {c} {d} h k = below (a ∷ b ∷ c ∷ d ∷ []) (slack h ⊞ slack k) (search poly depth 9) done
-
-pub neg-anti : {a b : ℤ} → a ≼ b → negℤ b ≼ negℤ a
-neg-anti {a} {b} h = below (a ∷ b ∷ []) (slack h) (search poly depth 9) done
-
-pub mul-mono : {a b c d : ℤ} → pos 0 ≼ a → a ≼ b → pos 0 ≼ c → c ≼ d → a *ℤ c ≼ b *ℤ d
-mul-mono {a} {b} {c} {d} p h q k = below (a ∷ b ∷ c ∷ d ∷ []) (slack h ⊠ q ⊞ p ⊠ slack k ⊞ slack h ⊠ slack k) (search poly depth 9) done
-
-pub mul-left-mono : {a b c : ℤ} → pos 0 ≼ c → a ≼ b → c *ℤ a ≼ c *ℤ b
-mul-left-mono {a} {b} {c} p h = below (a ∷ b ∷ c ∷ []) (p ⊠ slack h) (search poly depth 9) done
-
-pub mul-cancel : {a b c : ℤ} → pos 0 ≺ c → c *ℤ a ≼ c *ℤ b → a ≼ b
-mul-cancel {a} {b} {c} p h =
-    let q = slack (add-one-le-of-lt p) in
-    ≼-by-contra (λ k. refute (a ∷ b ∷ c ∷ []) (slack h ⊞ q ⊞ (q ⊞ num 1) ⊠ slack k) (search poly depth 12) done)
-
--- a ≼ b from the order of their squares
-pub square-cancel : {a b : ℤ} → pos 0 ≼ b → a *ℤ a ≼ b *ℤ b → a ≼ b
-square-cancel {a} {b} p h = ≼-by-contra (λ k. refute (a ∷ b ∷ []) (slack h ⊞ slack k ⊠ slack k ⊞ num 2 ⊠ slack k ⊠ (p ⊞ num 1) ⊞ num 2 ⊠ p) (search poly depth 12) done)
-
-pub square-cancelℕ : (a b : ℕ) → a * a ≤ b * b → a ≤ b
-square-cancelℕ a b h = le-of-pos-le (square-cancel (num b) (pos-le h))
 
 -- what `search nonneg` proves is not negative: sums and products of squares, natural numbers and hypotheses
 pub ruleset nonneg = (sq, num, _⊞_, _⊠_)

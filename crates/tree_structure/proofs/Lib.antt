@@ -1,4 +1,3 @@
-pub mod Copying
 pub mod Parting
 pub mod Levels
 pub mod Building

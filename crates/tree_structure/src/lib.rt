@@ -2,11 +2,11 @@
 // `v` has the settings, `n` is the number of frames; `left` is the number of levels below a node of the level `level`.
 use counting_tree::IntersectionType;
 use hyperparams::ValidParams;
+use lists::Word;
 ghost use mathlib.Core.Path.{_≡_};
-ghost use mathlib.Core.Logic.{_⊎_};
 ghost use mathlib.Core.List.{List, _++_, _∷_, []};
 ghost use Prim.Native.Nat.{ℕ, _+_, _-_, _*_, _<_, _≤_};
-ghost use lib.ListN.{length, getD, replicate};
+ghost use lib.ListN.{length, getD};
 ghost use Rattle.lists.specs.Lists.{keep, lose, Below};
 ghost use Rattle.lists.specs.Words.{over, part, Clear};
 ghost use Rattle.hyperparams.specs.Params.{maxFrames, levels};
@@ -15,27 +15,10 @@ ghost use Rattle.counting_tree.specs.Ready.{geometryAt, Ready};
 ghost use Rattle.tree_structure.specs.Encode.{size, encode, TreeAt, TreesAt, toldOf};
 ghost use Rattle.tree_structure.specs.Work.{maxNodes, NodeRoom, GroupsRoom, BuiltNode, BuiltGroups, CanBuild};
 
-// A number of the work memory.
-pub type Word = u16;
-
 // The count of a frame in a tree, and the first frame of the node that is counted; both are 0 where no node is.
 pub struct Counted {
     pub count: usize,
     pub first: usize,
-}
-
-fn wide(x: Word) -> usize
-    ensures { λ r. ⌜ r ≡ x ⌝ }
-{
-    x as usize
-}
-
-// The word at `at`.
-pub fn word(work: &[Word], at: usize) -> usize
-    requires { ⌜ at < length (now work) ⌝ }
-    ensures { λ r. ⌜ r ≡ getD (now (work .entry)) at 0 ⌝ }
-{
-    wide(work[at])
 }
 
 // The place after the tree that begins at `at`.
@@ -43,7 +26,7 @@ fn past(work: &[Word], at: usize) -> usize
     requires { ⌜ (at + 1 < length (now work)) × (at + 4 * getD (now work) (at + 1) 0 ≤ length (now work)) ⌝ }
     ensures { λ r. ⌜ r ≡ at + 4 * getD (now (work .entry)) (at + 1) 0 ⌝ }
 {
-    at + 4 * word(work, at + 1)
+    at + 4 * lists::word(work, at + 1)
 }
 
 // Writes the four words of a node.
@@ -55,31 +38,6 @@ fn write_node(work: &mut [Word], at: usize, count: usize, size: usize, first: Wo
     work[at + 1] = size as Word;
     work[at + 2] = first;
     work[at + 3] = 0;
-}
-
-// Copies the `m` words from `from` on to `to`.
-fn copy_words(work: &mut [Word], from: usize, to: usize, m: usize)
-    requires { ⌜ (to ≤ from) ⊎ (from + m ≤ to) ⌝ }
-    requires { ⌜ (from + m ≤ length (now work)) × (to + m ≤ length (now work)) ⌝ }
-    ensures { λ _. ⌜ now (work .exit) ≡ over (now (work .entry)) to (part (now (work .entry)) from m) ⌝ }
-{
-    let mut i = 0;
-    while i < m {
-        work[to + i] = work[from + i];
-        i += 1;
-    }
-}
-
-// Makes the `m` words from `at` on 0.
-pub fn clear_words(work: &mut [Word], at: usize, m: usize)
-    requires { ⌜ at + m ≤ length (now work) ⌝ }
-    ensures { λ _. ⌜ now (work .exit) ≡ over (now (work .entry)) at (replicate m 0) ⌝ }
-{
-    let mut i = 0;
-    while i < m {
-        work[at + i] = 0;
-        i += 1;
-    }
 }
 
 // Moves those of the `m` frames from `from` on that share the pivot's box to the front, and the others to `scratch`. Returns how many share it.
@@ -104,7 +62,7 @@ fn spread(
     let mut i = 0;
     while i < m {
         let x = work[from + i];
-        if counting_tree::points::same_box(points, v, n, level, pivot, wide(x)) {
+        if counting_tree::points::same_box(points, v, n, level, pivot, lists::wide(x)) {
             work[from + kept] = x;
             kept += 1;
             i += 1;
@@ -135,8 +93,8 @@ fn partition(
     ensures { λ _. ⌜ (let f = geometryAt v n (now (points .entry)) .same level pivot in let xs = part (now (work .entry)) from m in now (work .exit) ≡ over (now (work .entry)) from (keep f xs ++ lose f xs)) ⌝ }
 {
     let kept = spread(points, v, n, work, scratch, from, m, pivot, level);
-    copy_words(work, scratch, from + kept, m - kept);
-    clear_words(work, scratch, m - kept);
+    lists::copy_words(work, scratch, from + kept, m - kept);
+    lists::clear_words(work, scratch, m - kept);
     kept
 }
 
@@ -199,7 +157,7 @@ fn build_groups(
     let mut rest = m;
     let mut next = at;
     while rest > 0 {
-        let head = wide(work[from]);
+        let head = lists::wide(work[from]);
         let count = 1 + partition(points, v, n, work, scratch, from + 1, rest - 1, head, level);
         next = build_node(points, v, n, work, scratch, from, count, next, left, level);
         from += count;
@@ -226,9 +184,9 @@ pub fn build_structure(
     ensures { λ _. ⌜ (let g = geometryAt v n (now (points .entry)) in now (work .exit) ≡ over (now (work .entry)) at (encode (g .same) (g .levels) 0 (part (now (work .entry)) lo (hi - lo)))) ⌝ }
 {
     let m = hi - lo;
-    copy_words(work, lo, copy, m);
+    lists::copy_words(work, lo, copy, m);
     let next = build_node(points, v, n, work, scratch, copy, m, at, 1 + v.s, 0);
-    clear_words(work, copy, m);
+    lists::clear_words(work, copy, m);
     next
 }
 
@@ -247,8 +205,8 @@ fn count_node(
     requires { ⌜ ((xs : List ℕ) × TreeAt (geometryAt v n (now points) .same) n (now work) at left level xs) ⌝ }
     ensures { λ r. ⌜ (let g = geometryAt v n (now (points .entry)) in (xs : List ℕ) → TreeAt (g .same) n (now (work .entry)) at left level xs → r ≡ toldOf (counted (g .same) (g .box q) left level xs)) ⌝ }
 {
-    let count = word(work, at);
-    let first = word(work, at + 2);
+    let count = lists::word(work, at);
+    let first = lists::word(work, at + 2);
     match counting_tree::points::classify(points, v, n, q, level, first) {
         IntersectionType::Disjoint => Counted { count: 0, first: 0 },
         IntersectionType::FullyCovered => Counted { count, first },

@@ -2,8 +2,8 @@
 use mathlib.Core.Bool.{true, false}
 use Prim.Native.Nat.{_-_}
 use native.Mathlib.Omega.{arith}
+use Rattle.lists.specs.LoopLaws.{Sum, sum-le, sum-stop, sum-more, sum-skip, sum-end}
 use Rattle.counting_tree.specs.Ready.{geometryAt}
-use Rattle.cells_grid.proofs.Count.{Sum, sum-le, sum-stop, sum-more, sum-skip, sum-end}
 use Rattle.cells_grid.proofs.Core.{inRange, crowd-least, crowd-start, crowd-le, crowd-is, own-fits, own-listed, range-listed, range-other}
 use Rattle.cells_grid.proofs.crowded.Statement.{statement}
 use Rattle.cells_grid.proofs.crowded.Tie as tie

@@ -3,10 +3,10 @@ use mathlib.Core.Path.{sym, _∙_}
 use Prim.Native.Nat.{_-_, _*_}
 use native.Mathlib.Omega.{arith}
 use Rattle.lists.specs.Lists.{howMany}
+use Rattle.lists.specs.LoopLaws.{Scan, scan-hit, scan-miss, scan-end}
 use Rattle.counting_tree.specs.Ready.{geometryAt}
 use Rattle.cells_grid.specs.Cells.{members}
 use Rattle.cells_grid.specs.Arrangement.{cellAt}
-use Rattle.cells_grid.proofs.Count.{Scan, scan-hit, scan-miss, scan-end}
 use Rattle.cells_grid.proofs.InRange.{range-fits, range-end, range-scan, range-below}
 use Rattle.cells_grid.proofs.points_in_range.Statement.{statement}
 use Rattle.cells_grid.proofs.points_in_range.Tie as tie

@@ -10,10 +10,10 @@ use Rattle.core_cells.proofs.build_tree.Tie as tie
 use Rattle.core_cells.proofs.build_tree.Reads as reads
 use Rattle.core_cells.proofs.build_tree.Lts as lts
 use Rattle.cells_grid.proofs.cell_end.Reads as cell-end-reads
-use Rattle.cells_grid.proofs.word.Reads as word-reads
+use Rattle.lists.proofs.word.Reads as word-reads
 use Rattle.core_cells.proofs.gather_core.Reads as gather-core-reads
 use Rattle.tree_structure.proofs.build_structure.Reads as build-structure-reads
-use Rattle.tree_structure.proofs.clear_words.Reads as clear-words-reads
+use Rattle.lists.proofs.clear_words.Reads as clear-words-reads
 
 -- at the entry
 ripe-at : (c : lts.Start (

@@ -1,16 +1,15 @@
 -- The product fits: at most 4,096 frames, at most 64 words each.
 use mathlib.Core.Path.{refl}
 use Prim.Native.Nat.{ℕ, _≤_}
-use native.Mathlib.Nat.{le-trans, mul-le-mul}
+use native.Mathlib.Nat.{mul-le-mul}
 use native.Mathlib.Omega.{arith}
-use lib.Dec.{lit≤}
 use borrow.Author.Needs.{needs}
-use Rattle.hyperparams.specs.Params.{workWords, maxFrames}
+use Rattle.hyperparams.specs.Params.{workWords, maxFrames, maxPower}
 use Rattle.hyperparams.proofs.work_words.Statement.{statement}
 use Rattle.hyperparams.proofs.work_words.Tie as tie
 
-words-bound : (frames s : ℕ) → frames ≤ maxFrames → s ≤ 10 → workWords frames s ≤ 262144
-words-bound frames s h k = le-trans (mul-le-mul {n₂ = maxFrames} {m₂ = 64} h (omega arith)) (lit≤ tt)
+words-bound : (frames s : ℕ) → frames ≤ maxFrames → s ≤ maxPower → workWords frames s ≤ workWords maxFrames maxPower
+words-bound frames s h k = mul-le-mul {m₂ = 64} h (omega arith)
 
 add-levels : tie.Need-add-levels
 add-levels c = search needs

@@ -16,7 +16,7 @@ use Rattle.tree_structure.proofs.build_node.Reads as build-node
 use Rattle.tree_structure.proofs.build_node.Kinds as build-node-kinds
 use Rattle.tree_structure.proofs.+build_groups+build_node.Lts-build_node as build-node-lts
 use Rattle.tree_structure.proofs.partition.Reads as partition-reads
-use Rattle.tree_structure.proofs.wide.Reads as wide-reads
+use Rattle.lists.proofs.wide.Reads as wide-reads
 use Rattle.tree_structure.proofs.write_node.Reads as write-node-reads
 use Rattle.tree_structure.proofs.+build_groups+build_node.{statement}
 use Rattle.tree_structure.proofs.+build_groups+build_node.Tie.{close}

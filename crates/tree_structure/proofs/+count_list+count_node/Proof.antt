@@ -20,7 +20,7 @@ use Rattle.tree_structure.proofs.count_node.Kinds as count-node-kinds
 use Rattle.tree_structure.proofs.+count_list+count_node.Lts-count_node as count-node-lts
 use Rattle.counting_tree.proofs.points.classify.Reads as classify-reads
 use Rattle.tree_structure.proofs.past.Reads as past-reads
-use Rattle.tree_structure.proofs.word.Reads as word-reads
+use Rattle.lists.proofs.word.Reads as word-reads
 use Rattle.tree_structure.proofs.+count_list+count_node.{statement}
 use Rattle.tree_structure.proofs.+count_list+count_node.Tie.{close}
 
