@@ -1,4 +1,3 @@
-pub mod Copying
 pub mod Within
 pub mod Phases
 pub mod Answer

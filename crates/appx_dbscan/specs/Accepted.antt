@@ -24,11 +24,11 @@ use Rattle.appx_dbscan.specs.Promise.{Nearer, FarReach, Promise}
 use Rattle.appx_dbscan.specs.Sound.{Sound}
 use Rattle.appx_dbscan.specs.Theorem.{promise-over}
 
-module _ (reach : ℕ) (v : ValidParams) (fs : List Frame) where
-  pub sound : Domain v fs → Sound (geometryOf reach v fs) (Nearer v fs) (FarReach v fs)
+module _ (factor : ℕ) (v : ValidParams) (fs : List Frame) where
+  pub sound : Domain v fs → Sound (geometryOf factor v fs) (Nearer v fs) (FarReach v fs)
   unfolding geometryOf
   sound D = record {
-    lawful = lawful reach v fs;
+    lawful = lawful factor v fs;
     disjoint = Boxes.disjoint v fs D;
     covered = Boxes.covered v fs D;
     last = Boxes.last v fs D;
@@ -50,12 +50,12 @@ module _ (p : Params) (ps : List ℤ) (labels kinds work : List ℕ) (v : ValidP
       rw (frames-length (length ps / v .channels) (v .channels) ps) (le-trans few (lit≤ tt))
 
   -- demand 3 with lists of any bound
-  pub promise-reach : (reach : ℕ) → Promise reach v fs (over labels 0 (transformOf (geometryOf reach v fs) .labels)) (over kinds 0 (transformOf (geometryOf reach v fs) .kinds))
-  promise-reach reach =
-      promise-over (geometryOf reach v fs) (Nearer v fs) (FarReach v fs) (sound reach v fs (domain-of p ps (length labels) (length kinds) (length work) e c)) (unfold geometryOf in few-frames)
+  pub promise-any-list : (factor : ℕ) → Promise factor v fs (over labels 0 (transformOf (geometryOf factor v fs) .labels)) (over kinds 0 (transformOf (geometryOf factor v fs) .kinds))
+  promise-any-list factor =
+      promise-over (geometryOf factor v fs) (Nearer v fs) (FarReach v fs) (sound factor v fs (domain-of p ps (length labels) (length kinds) (length work) e c)) (unfold geometryOf in few-frames)
       labels kinds
 
   -- DEMAND 3 of every accepted run
   pub promise-accepted : Promise short v (framesOf (v .channels) ps) (labelsLeft (Valid v) ps labels) (kindsLeft (Valid v) ps kinds)
   unfolding run
-  promise-accepted = promise-reach short
+  promise-accepted = promise-any-list short

@@ -41,10 +41,10 @@ module _ (v : ValidParams) (fs : List Frame) where
   unfoldable pub paperCore : ℕ → Bool
   paperCore i = leb (v .«min_points») (closeCount i)
 
--- the run with lists of the bound reach × t × t
-module _ (reach : ℕ) (v : ValidParams) (fs : List Frame) where
+-- the run with lists of the bound factor × t × t
+module _ (factor : ℕ) (v : ValidParams) (fs : List Frame) where
   abbrev g : Geometry
-  g = geometryOf reach v fs
+  g = geometryOf factor v fs
 
   -- how many frames of listed cells lie within t of frame i
   abbrev pub listedCount : ℕ → ℕ
@@ -63,9 +63,9 @@ module _ (reach : ℕ) (v : ValidParams) (fs : List Frame) where
     pub within-t : N v fs i j ≤ v .t * v .t
     pub not-listed : T (not (listed g i j))
     -- the first frames of the two cells lie beyond the bound of the lists
-    pub firsts-far : reach * (v .t * v .t) < N v fs (first g i) (first g j)
+    pub firsts-far : factor * (v .t * v .t) < N v fs (first g i) (first g j)
     -- so frames i and j do not both lie near them: at distances of at most A and B, the way between the first frames over i and j is at most A + t + B
-    pub aside : (A B : ℕ) → N v fs i (first g i) ≤ A * A → N v fs j (first g j) ≤ B * B → reach * (v .t * v .t) < (A + v .t + B) * (A + v .t + B)
+    pub aside : (A B : ℕ) → N v fs i (first g i) ≤ A * A → N v fs j (first g j) ≤ B * B → factor * (v .t * v .t) < (A + v .t + B) * (A + v .t + B)
 
   -- a core frame of the paper's that the lists miss
   pub record Missed (i : ℕ) : Type 0 where
@@ -88,18 +88,18 @@ module _ (reach : ℕ) (v : ValidParams) (fs : List Frame) where
     -- the first frame of a frame's cell, and N to it
     first-inside : (i : ℕ) → i < length fs → first g i < length fs
     unfolding geometryOf
-    first-inside i h = first-in g (lawful reach v fs) i h .0
+    first-inside i h = first-in g (lawful factor v fs) i h .0
 
     first-near : (i : ℕ) → i < length fs → N v fs i (first g i) ≤ v .t * v .t
     unfolding geometryOf
-    first-near i h = let f = first-in g (lawful reach v fs) i h in cell-near v fs D i (first g i) h (f .0) (f .1)
+    first-near i h = let f = first-in g (lawful factor v fs) i h in cell-near v fs D i (first g i) h (f .0) (f .1)
 
     pub unlisted-is : (i j : ℕ) → i < length fs → j < length fs → T (unlisted i j) → Unlisted i j
     unfolding listed geometryOf near
     unlisted-is i j h k u =
         let n = and-left (not (listed g i j)) (close v fs i j) u in
         let c = leb→le (N v fs i j) (v .t * v .t) (and-right (not (listed g i j)) (close v fs i j) u) in
-        let far = nleb→lt (N v fs (first g i) (first g j)) (reach * (v .t * v .t)) n in
+        let far = nleb→lt (N v fs (first g i) (first g j)) (factor * (v .t * v .t)) n in
         record {
           inside = k;
           within-t = c;
@@ -135,7 +135,7 @@ module _ (reach : ℕ) (v : ValidParams) (fs : List Frame) where
     unfolding members listed geometryOf near
     own-cell i h = rw (listed-count i h) (keep-more (sameCell g i) (λ j. listed g i j && close v fs i j) (numbers (length fs)) (λ j k t.
         and-both (listed g i j) (close v fs i j)
-        (rw (← first-same g (lawful reach v fs) i j h t, squared-self (frame v fs (first g i))) (le→leb 0 (reach * (v .t * v .t)) (omega arith)))
+        (rw (← first-same g (lawful factor v fs) i j h t, squared-self (frame v fs (first g i))) (le→leb 0 (factor * (v .t * v .t)) (omega arith)))
         (le→leb (N v fs i j) (v .t * v .t) (cell-near v fs D i j h (in-numbers (length fs) j k) t))))
 
     -- so the frames of a cell with at least `min_points` frames are core by the count as well
@@ -185,11 +185,11 @@ module _ (reach : ℕ) (v : ValidParams) (fs : List Frame) where
     paper-core i h all p = rw (unless-missed i h (λ m. let u = m .other-unlisted in T-not (listed g i (m .other)) (u .not-listed) (all (m .other) (u .inside) (u .within-t)))) p
 
     -- with a bound of 9 × t × t or more none is missed: the first frames of two cells with frames within t of each other lie within 3 × t
-    pub wide-core : 9 ≤ reach → (i : ℕ) → i < length fs → core g i ≡ paperCore v fs i
+    pub wide-core : 9 ≤ factor → (i : ℕ) → i < length fs → core g i ≡ paperCore v fs i
     wide-core w i h = unless-missed i h (λ m. let u = m .other-unlisted in wide (v .t) (u .aside (v .t) (v .t) (first-near i h) (first-near (m .other) (u .inside))))
       where
-        wide : (t : ℕ) → reach * (t * t) < (t + t + t) * (t + t + t) → ⊥
-        wide t l = let m : 9 * (t * t) ≤ reach * (t * t) = mul-le-mul-right (t * t) w in omega arith
+        wide : (t : ℕ) → factor * (t * t) < (t + t + t) * (t + t + t) → ⊥
+        wide t l = let m : 9 * (t * t) ≤ factor * (t * t) = mul-le-mul-right (t * t) w in omega arith
 
 -- ---- the lists of module 4, with the bound 4 × t × t
 module _ (v : ValidParams) (fs : List Frame) (D : Domain v fs) where

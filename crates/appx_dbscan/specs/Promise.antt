@@ -52,8 +52,8 @@ module _ (g : Geometry) (Near Far : ℕ → ℕ → Type 0) where
   -- all but the near-chain promise: what a run stopped early keeps
   pub record StoppedPromise (labels kinds : List ℕ) : Type 0 where
     -- a label and a kind for each frame; the slices may be longer
-    pub labelled : g .frames ≤ length labels
-    pub sorted : g .frames ≤ length kinds
+    pub labels-fit : g .frames ≤ length labels
+    pub kinds-fit : g .frames ≤ length kinds
     -- "and they share one only if a chain of core frames joins them whose every step has a squared length below (t × (1 + slack))² + 1"
     pub far : (p q : ℕ) → CoreFrame g p → CoreFrame g q → getD labels p 0 ≡ getD labels q 0 → Chain (CoreFrame g) Far p q
     -- "Every border frame has the label of a core frame within that same reach"
@@ -84,4 +84,4 @@ FarReach v fs p q = N v fs p q * 4 ^ v .s < v .t * (2 ^ v .s + 1) * (v .t * (2 ^
 
 -- demand 3 of the frames and settings of a run, with the factor of its lists
 abbrev pub Promise : ℕ → ValidParams → List Frame → List ℕ → List ℕ → Type 0
-Promise reach v fs labels kinds = PromiseOf (geometryOf reach v fs) (Nearer v fs) (FarReach v fs) labels kinds
+Promise factor v fs labels kinds = PromiseOf (geometryOf factor v fs) (Nearer v fs) (FarReach v fs) labels kinds

@@ -26,8 +26,8 @@ use Rattle.appx_dbscan.specs.Sound.{Sound}
 
 -- the slices begin with the label of each frame, by `number` of its cell, and its kind
 pub record LabelledBy (g : Geometry) (number : ℕ → ℕ) (labels kinds : List ℕ) : Type 0 where
-  pub labelled : g .frames ≤ length labels
-  pub sorted : g .frames ≤ length kinds
+  pub labels-fit : g .frames ≤ length labels
+  pub kinds-fit : g .frames ≤ length kinds
   pub at-label : (q : ℕ) → q < g .frames → getD labels q 0 ≡ labelBy g number q
   pub at-kind : (q : ℕ) → q < g .frames → getD kinds q 0 ≡ kindOf g q
 
@@ -39,8 +39,8 @@ module _ (g : Geometry) where
   pub transform-labelled : LabelledBy g clusterOf (transformOf g .labels) (transformOf g .kinds)
   unfolding transformOf
   transform-labelled = record {
-    labelled = le-of-eq (sym (length-numbers (labelBy g clusterOf) (g .frames)));
-    sorted = le-of-eq (sym (length-numbers (kindOf g) (g .frames)));
+    labels-fit = le-of-eq (sym (length-numbers (labelBy g clusterOf) (g .frames)));
+    kinds-fit = le-of-eq (sym (length-numbers (kindOf g) (g .frames)));
     at-label = at-numbers (labelBy g clusterOf) 0 (g .frames);
     at-kind = at-numbers (kindOf g) 0 (g .frames);
   }
@@ -49,10 +49,10 @@ module _ (g : Geometry) where
   over-labelled labels kinds =
       let W = transform-labelled in
       record {
-        labelled = longer (transformOf g .labels) labels (W .labelled);
-        sorted = longer (transformOf g .kinds) kinds (W .sorted);
-        at-label = λ q h. List·getD-append (transformOf g .labels) (drop (0 + length (transformOf g .labels)) labels) 0 q (lt-of-lt-of-le h (W .labelled)) ∙ W .at-label q h;
-        at-kind = λ q h. List·getD-append (transformOf g .kinds) (drop (0 + length (transformOf g .kinds)) kinds) 0 q (lt-of-lt-of-le h (W .sorted)) ∙ W .at-kind q h;
+        labels-fit = longer (transformOf g .labels) labels (W .labels-fit);
+        kinds-fit = longer (transformOf g .kinds) kinds (W .kinds-fit);
+        at-label = λ q h. List·getD-append (transformOf g .labels) (drop (0 + length (transformOf g .labels)) labels) 0 q (lt-of-lt-of-le h (W .labels-fit)) ∙ W .at-label q h;
+        at-kind = λ q h. List·getD-append (transformOf g .kinds) (drop (0 + length (transformOf g .kinds)) kinds) 0 q (lt-of-lt-of-le h (W .kinds-fit)) ∙ W .at-kind q h;
       }
     where
       longer : (ws xs : List ℕ) → g .frames ≤ length ws → g .frames ≤ length (over xs 0 ws)
@@ -246,8 +246,8 @@ module _ (g : Geometry) (Near Far : ℕ → ℕ → Type 0) (S : Sound g Near Fa
       -- ALL BUT THE NEAR PROMISE, for numbers that tell linked sets apart, as of a run stopped early
       pub stopped-by : StoppedPromise g Near Far labels kinds
       stopped-by = record {
-        labelled = W .labelled;
-        sorted = W .sorted;
+        labels-fit = W .labels-fit;
+        kinds-fit = W .kinds-fit;
         far = far-frames;
         border = border-reached;
         noise = no-near;

@@ -9,13 +9,13 @@ use Rattle.counting_tree.specs.Ready.{geometryAt, Ready}
 use Rattle.counting_tree.specs.Sound.{same-self, same-turn, same-join, near-turn, box-same}
 use Rattle.cells_grid.specs.Lawful.{Lawful}
 
-pub lawful : (reach : ℕ) (v : ValidParams) (fs : List Frame) → Lawful (geometryOf reach v fs)
+pub lawful : (factor : ℕ) (v : ValidParams) (fs : List Frame) → Lawful (geometryOf factor v fs)
 unfolding geometryOf
-lawful reach v fs = record {
+lawful factor v fs = record {
   same-self = same-self v fs;
   same-turn = same-turn v fs;
   same-join = same-join v fs;
-  near-turn = near-turn v fs reach;
+  near-turn = near-turn v fs factor;
   box-same = box-same v fs;
 }
 

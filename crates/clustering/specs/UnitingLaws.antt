@@ -11,7 +11,7 @@ use lib.ListN.{length, length-map}
 use Rattle.lists.specs.Lists.{numbers, keep, howMany, total, In}
 use Rattle.lists.specs.ListLaws.{T-true, T-false, T-or-not, both-ways, and-left, and-right, and-both, or-cases, or-one, or-two}
 use Rattle.lists.specs.ListLaws.{keep-in, in-keep, keep-same, concat-in, in-concat, map-in, in-map, numbers-in, in-numbers, length-from}
-use Rattle.lists.specs.CountLaws.{keep-le, keep-keep, total-le, total-bool, length-concat}
+use Rattle.lists.specs.CountLaws.{keep-le, keep-keep, total-le, total-bool, length-concat, keep-map}
 use Rattle.lists.specs.OrderLaws.{keep-low}
 use Rattle.lists.specs.Chains.{Chain, alone, step, chain-first, chain-last}
 use Rattle.counting_tree.specs.Geometry.{Geometry}
@@ -28,15 +28,6 @@ use Rattle.clustering.specs.Leaders.{Leads, number-by-leaders, cluster-c
 use Rattle.clustering.specs.LeaderPartition.{Lowest, unite-lowest, lower-either, equal}
 use Rattle.clustering.specs.Uniting.{pairAt, pairsWith, pairsOf, touchAt, uniting, lowestAt}
 use Rattle.clustering.specs.Numbering.{Led, leads, numberBy, clusterWord}
-
--- ---- lists and chains
-pub keep-map : {A B : Type 0} (f : B → Bool) (h : A → B) (xs : List A) → keep f (map h xs) ≡ map h (keep (λ x. f (h x)) xs)
-keep-map f h [] = refl
-keep-map {A} {B} f h (x ∷ xs) = go (f (h x)) (keep-map f h xs)
-  where
-    go : (b : Bool) {l : List B} → l ≡ map h (keep (λ x. f (h x)) xs) → cond b (h x ∷ l) l ≡ map h (cond b (x ∷ keep (λ x. f (h x)) xs) (keep (λ x. f (h x)) xs))
-    go true e = ap (λ (r : List B). h x ∷ r) e
-    go false e = e
 
 -- a chain, carried over by f
 chain-along : {C D : ℕ → Type 0} {S R : ℕ → ℕ → Type 0} (f : ℕ → ℕ) → ((p : ℕ) → C p → D (f p)) → ((p q : ℕ) → C p → C q → S p q → R (f p) (f q))

@@ -73,16 +73,16 @@ module _ (v : ValidParams) (fs : List Frame) where
 
   -- "a sum of squared differences from its own of at most 4 × t × t", with the factor as a parameter
   unfoldable pub near : ℕ → ℕ → ℕ → Bool
-  near reach c d = leb (N c d) (reach * (v .t * v .t))
+  near factor c d = leb (N c d) (factor * (v .t * v .t))
 
 unfoldable pub geometryOf : ℕ → ValidParams → List Frame → Geometry
 unfolding sameBox within box near
-geometryOf reach v fs = record {
+geometryOf factor v fs = record {
   frames = length fs;
   least = v .«min_points»;
   levels = levels (v .s);
   same = sameBox v fs;
-  near = near v fs reach;
+  near = near v fs factor;
   within = within v fs;
   box = box v fs;
 }

@@ -66,9 +66,9 @@ module _ (v : ValidParams) (fs : List Frame) where
   pub same-join : (l i j k : ℕ) → T (sameBox v fs l i j) → T (sameBox v fs l j k) → T (sameBox v fs l i k)
   same-join l i j k h m = indexes-same l i k (same-indexes l i j h ∙ same-indexes l j k m)
 
-  pub near-turn : (reach c d : ℕ) → T (near v fs reach c d) → T (near v fs reach d c)
+  pub near-turn : (factor c d : ℕ) → T (near v fs factor c d) → T (near v fs factor d c)
   unfolding near
-  near-turn reach c d h = subst (λ (n : ℕ). T (leb n (reach * (v .t * v .t)))) (squared-swap (frame v fs c) (frame v fs d)) h
+  near-turn factor c d h = subst (λ (n : ℕ). T (leb n (factor * (v .t * v .t)))) (squared-swap (frame v fs c) (frame v fs d)) h
 
   -- equal indexes give equal boxes
   pub box-same : (q l i j : ℕ) → T (sameBox v fs l i j) → box v fs q l i ≡ box v fs q l j

@@ -5,9 +5,9 @@ use mathlib.Core.List.{List}
 use Prim.Native.Nat.{ℕ, _+_, _<_, _≤_}
 use native.Mathlib.Omega.{arith}
 use lib.ListN.{length, getD, replicate}
-use Rattle.lists.specs.Words.{over, part, column}
+use Rattle.lists.specs.Words.{over, column}
 use Rattle.lists.specs.ListLaws.{length-numbers}
-use Rattle.lists.specs.PartLaws.{get-under, get-above, column-replicate, column-part}
+use Rattle.lists.specs.PartLaws.{get-under, get-above, column-replicate}
 use Rattle.lists.specs.LoopLaws.{Fill, fill-end}
 
 -- what the next turn reads is still the word that stood there at first
@@ -18,9 +18,6 @@ copy-read {w₀} {v} {from} {to} {m} {i} d c h =
     let f : to ≤ length w₀ = omega (arith, c .fit) in
     ap (λ (z : List ℕ). getD z (from + i) 0) (c .work)
     ∙ elim d [ inl p ↦ get-above w₀ to (from + i) ws (omega arith) f | inr p ↦ get-under w₀ to (from + i) ws (omega arith) f ]
-
-pub copy-end : {w₀ v : List ℕ} {to m i : ℕ} (from : ℕ) → from + m ≤ length w₀ → Fill (λ j. getD w₀ (from + j) 0) w₀ to m v i → m ≤ i → v ≡ over w₀ to (part w₀ from m)
-copy-end {w₀} {v} {to} {m} from h c e = fill-end c e ∙ ap (over w₀ to) (column-part w₀ from m h)
 
 pub clear-end : {w₀ v : List ℕ} {a m i : ℕ} → Fill (λ j. 0) w₀ a m v i → m ≤ i → v ≡ over w₀ a (replicate m 0)
 clear-end {w₀} {v} {a} {m} c e = fill-end c e ∙ ap (over w₀ a) (column-replicate 0 m)

@@ -13,7 +13,7 @@ use Rattle.lists.specs.ListLaws.{T-true, T-false, length-numbers}
 use Rattle.lists.specs.CountLaws.{howMany-cons}
 use Rattle.lists.specs.OrderLaws.{kept-snoc, kept-le}
 use Rattle.lists.specs.WordLaws.{over-length, over-nil, over-snoc}
-use Rattle.lists.specs.PartLaws.{part-under, part-first, column-snoc}
+use Rattle.lists.specs.PartLaws.{part-under, part-first, column-snoc, column-part}
 
 -- ---- what is left of the numbers
 pub rest-start : (n : ℕ) → rest n 0 ≡ numbers n
@@ -139,6 +139,10 @@ module _ {A : Type 0} {h : ℕ → A} {w₀ : List A} {a n : ℕ} {v : List A} {
 
   pub fill-end : n ≤ i → v ≡ over w₀ a (column h n)
   fill-end k = let e : i ≡ n = omega (arith, c .high) in c .work ∙ ap (λ (z : ℕ). over w₀ a (column h z)) e
+
+-- the column is of words of another slice
+pub fill-part : (xs : List ℕ) (b : ℕ) {w₀ v : List ℕ} {a n i : ℕ} → b + n ≤ length xs → Fill (λ j. getD xs (b + j) 0) w₀ a n v i → n ≤ i → v ≡ over w₀ a (part xs b n)
+fill-part xs b {w₀} {v} {a} {n} h c l = fill-end c l ∙ ap (over w₀ a) (column-part xs b n h)
 
 -- ---- the numbers that pass f are gathered: k so far
 pub record Gather (f : ℕ → Bool) (w₀ : List ℕ) (a n : ℕ) (v : List ℕ) (k i : ℕ) : Type 0 where

@@ -3,8 +3,7 @@ use mathlib.Core.Path.{refl}
 use Prim.Native.Nat.{_+_, _-_, _*_}
 use native.Mathlib.Omega.{arith}
 use lib.ListN.{getD}
-use Rattle.lists.specs.LoopLaws.{Fill, fill-start, fill-length, fill-step}
-use Rattle.appx_dbscan.proofs.Copying.{copied}
+use Rattle.lists.specs.LoopLaws.{Fill, fill-start, fill-length, fill-step, fill-part}
 use Rattle.appx_dbscan.proofs.copy_labels.Statement.{statement}
 use Rattle.appx_dbscan.proofs.copy_labels.Tie as tie
 
@@ -48,7 +47,7 @@ same-length : tie.Need-same-length Inv-loop μ-loop
 same-length c = fill-length (c .before .loop .inv)
 
 returns : tie.Need-returns Inv-loop μ-loop
-returns c = copied _ (8 * c .before .before .args .n) (c .before .loop .inv) (omega arith) (c .loop-test .left)
+returns c = fill-part _ (8 * c .before .before .args .n) (omega arith) (c .before .loop .inv) (c .loop-test .left)
 
 pub copy-labels-spec : {M : Type 1} → statement M
 copy-labels-spec =

@@ -1,15 +1,21 @@
 -- `count_cores` meets its contract.
 use mathlib.Core.Path.{_≡_, refl, sym, ap, _∙_}
-use mathlib.Core.Bool.{true, false}
+use mathlib.Core.Bool.{Bool, true, false, cond}
 use Prim.Native.Nat.{ℕ, _+_, _-_, _*_, _≤_}
 use native.Mathlib.Nat.{add-zero}
 use native.Mathlib.Omega.{arith}
 use lib.Dec.{eqb}
 use lib.ListN.{getD}
 use Rattle.lists.specs.Lists.{numbers, howMany}
-use Rattle.appx_dbscan.proofs.Copying.{counted}
+use Rattle.lists.specs.OrderLaws.{many-snoc}
 use Rattle.appx_dbscan.proofs.count_cores.Statement.{statement}
 use Rattle.appx_dbscan.proofs.count_cores.Tie as tie
+
+-- one number more is counted, if it passes f
+counted : (f : ℕ → Bool) (m i : ℕ) (b : Bool) → m ≡ howMany f (numbers i) → f i ≡ b → m + cond b 1 0 ≡ howMany f (numbers (i + 1))
+counted f m i b e t =
+    let s : _≡_ {A = ℕ} (cond (f i) 1 0) (cond b 1 0) = ap (λ (b : Bool). cond b 1 0) t in
+    omega (arith, many-snoc f i)
 
 abbrev Inv-loop : tie.InvT-loop
 Inv-loop work n m₀ i₀ m i = (i ≤ n) × (m ≡ howMany (λ (j : ℕ). eqb (getD work (4 * n + j) 0) 1) (numbers i)) × (m ≤ i)

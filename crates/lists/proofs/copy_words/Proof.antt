@@ -3,8 +3,8 @@ use mathlib.Core.Path.{refl}
 use Prim.Native.Nat.{_+_, _-_}
 use native.Mathlib.Omega.{arith}
 use lib.ListN.{getD}
-use Rattle.lists.specs.LoopLaws.{Fill, fill-start, fill-length, fill-step}
-use Rattle.lists.proofs.Copying.{copy-read, copy-end}
+use Rattle.lists.specs.LoopLaws.{Fill, fill-start, fill-length, fill-step, fill-part}
+use Rattle.lists.proofs.Copying.{copy-read}
 use Rattle.lists.proofs.copy_words.Statement.{statement}
 use Rattle.lists.proofs.copy_words.Tie as tie
 
@@ -48,7 +48,7 @@ same-length : tie.Need-same-length Inv-loop μ-loop
 same-length c = fill-length (c .before .loop .inv)
 
 returns : tie.Need-returns Inv-loop μ-loop
-returns c = copy-end (c .before .before .args .from) (c .before .before .pre .1 .0) (c .before .loop .inv) (c .loop-test .left)
+returns c = fill-part _ (c .before .before .args .from) (c .before .before .pre .1 .0) (c .before .loop .inv) (c .loop-test .left)
 
 pub copy-words-spec : {M : Type 1} → statement M
 copy-words-spec =
