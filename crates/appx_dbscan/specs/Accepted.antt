@@ -14,13 +14,13 @@ use Rattle.hyperparams.specs.declared.ValidParams.{ValidParams}
 use Rattle.hyperparams.specs.declared.Checked.the-variants.{Valid}
 use Rattle.counting_tree.specs.Frames.{Frame, framesOf}
 use Rattle.counting_tree.specs.FramesIn.{frames-length}
-use Rattle.counting_tree.specs.Geometry.{geometryOf, short}
+use Rattle.counting_tree.specs.Geometry.{geometryOf, short, Nearer, FarReach}
 use Rattle.counting_tree.specs.Domain.{Counts, Domain, domain-of}
 use Rattle.counting_tree.specs.Sound as Boxes
 use Rattle.cells_grid.specs.Ready.{lawful}
 use Rattle.clustering.specs.Clusters.{none}
 use Rattle.appx_dbscan.specs.Transform.{transformOf, run, labelsLeft, kindsLeft, checkedCall}
-use Rattle.appx_dbscan.specs.Promise.{Nearer, FarReach, Promise}
+use Rattle.appx_dbscan.specs.Promise.{Promise}
 use Rattle.appx_dbscan.specs.Sound.{Sound}
 use Rattle.appx_dbscan.specs.Theorem.{promise-over}
 

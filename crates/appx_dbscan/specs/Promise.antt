@@ -3,14 +3,14 @@ use mathlib.Core.Path.{_≡_}
 use mathlib.Core.Logic.{_↔_}
 use mathlib.Core.Bool.{not}
 use mathlib.Core.List.{List}
-use Prim.Native.Nat.{ℕ, _+_, _*_, _^_, _≤_, _<_}
+use Prim.Native.Nat.{ℕ, _≤_, _<_}
 use lib.Dec.{T}
 use lib.ListN.{getD, length}
 use Rattle.lists.specs.Lists.{nonzero}
 pub use Rattle.lists.specs.Chains.{Chain, alone, step}
 use Rattle.hyperparams.specs.declared.ValidParams.{ValidParams}
 use Rattle.counting_tree.specs.Frames.{Frame}
-use Rattle.counting_tree.specs.Geometry.{Geometry, geometryOf, N}
+use Rattle.counting_tree.specs.Geometry.{Geometry, geometryOf, Nearer, FarReach}
 use Rattle.cells_grid.specs.Cells.{sameCell, listed, core, count}
 use Rattle.clustering.specs.Clusters.{none}
 
@@ -73,14 +73,6 @@ module _ (g : Geometry) (Near Far : ℕ → ℕ → Type 0) where
     pub near : (p q : ℕ) → Chain (CoreFrame g) (NearStep g Near) p q → getD labels p 0 ≡ getD labels q 0
     -- and the rest of demand 3
     pub others : StoppedPromise labels kinds
-
--- "nearer than t is N < t × t"
-abbrev pub Nearer : ValidParams → List Frame → ℕ → ℕ → Type 0
-Nearer v fs p q = N v fs p q < v .t * v .t
-
--- "The far reach is N × (4 to the power s) < (t × ((2 to the power s) + 1)) squared + (4 to the power s)."
-abbrev pub FarReach : ValidParams → List Frame → ℕ → ℕ → Type 0
-FarReach v fs p q = N v fs p q * 4 ^ v .s < v .t * (2 ^ v .s + 1) * (v .t * (2 ^ v .s + 1)) + 4 ^ v .s
 
 -- demand 3 of the frames and settings of a run, with the factor of its lists
 abbrev pub Promise : ℕ → ValidParams → List Frame → List ℕ → List ℕ → Type 0

@@ -16,13 +16,13 @@ use Rattle.hyperparams.specs.declared.Checked.{Checked}
 use Rattle.hyperparams.specs.declared.Refusal.{Refusal}
 use Rattle.hyperparams.specs.Params.{float, slackAt, validOf, wholeTolerance, slackPower, appxTolerance, checkedOf}
 use Rattle.counting_tree.specs.Frames.{Frame}
-use Rattle.counting_tree.specs.Geometry.{Geometry, geometryOf, short, N}
+use Rattle.counting_tree.specs.Geometry.{Geometry, geometryOf, short, N, FarReach}
 use Rattle.cells_grid.specs.Cells.{first, listed, core, coreCells, count}
 use Rattle.clustering.specs.Clusters.{connected, place, clusters, labelBy, kindOf, none}
 use Rattle.appx_dbscan.specs.declared.Outcome.{Outcome}
 use Rattle.appx_dbscan.specs.declared.Outcome.the-variants as Outcome
 use Rattle.appx_dbscan.specs.Transform.{Answer, transformOf, run, outcomeOf, labelsLeft, checkedCall}
-use Rattle.appx_dbscan.specs.Promise.{Chain, alone, step, CoreFrame, FarReach, into-listed, Border, Noise, Promise}
+use Rattle.appx_dbscan.specs.Promise.{Chain, alone, step, CoreFrame, into-listed, Border, Noise, Promise}
 use Rattle.appx_dbscan.specs.Small.{params, minus, valid, frames, grid, differ, differ-at}
 
 -- ---- the stand-ins, as answers that a run might give

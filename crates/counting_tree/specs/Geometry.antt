@@ -1,7 +1,7 @@
 -- What cells, lists, core frames and clusters need of the frames and the settings. A frame is named by its number. Definitions only.
 use mathlib.Core.Bool.{Bool, true, false, _&&_}
 use mathlib.Core.List.{List, [], _∷_}
-use Prim.Native.Nat.{ℕ, _*_}
+use Prim.Native.Nat.{ℕ, _+_, _*_, _^_, _<_}
 use lib.IntN.{ℤ, pos, negsuc}
 use lib.Dec.{leb, eqb}
 use lib.ListN.{length, getD}
@@ -74,6 +74,14 @@ module _ (v : ValidParams) (fs : List Frame) where
   -- "a sum of squared differences from its own of at most 4 × t × t", with the factor as a parameter
   unfoldable pub near : ℕ → ℕ → ℕ → Bool
   near factor c d = leb (N c d) (factor * (v .t * v .t))
+
+  -- "nearer than t is N < t × t"
+  abbrev pub Nearer : ℕ → ℕ → Type 0
+  Nearer p q = N p q < v .t * v .t
+
+  -- "The far reach is N × (4 to the power s) < (t × ((2 to the power s) + 1)) squared + (4 to the power s)."
+  abbrev pub FarReach : ℕ → ℕ → Type 0
+  FarReach p q = N p q * 4 ^ v .s < v .t * (2 ^ v .s + 1) * (v .t * (2 ^ v .s + 1)) + 4 ^ v .s
 
 unfoldable pub geometryOf : ℕ → ValidParams → List Frame → Geometry
 unfolding sameBox within box near

@@ -19,7 +19,7 @@ use Rattle.counting_tree.specs.Frames.{Frame, floats}
 use Rattle.counting_tree.specs.FramesIn.{squared-swap}
 use Rattle.counting_tree.specs.Grid.{centre, indexes, centres}
 use Rattle.counting_tree.specs.Box.{intersection}
-use Rattle.counting_tree.specs.Geometry.{sameInt, sameInts, frame, N, side, sameBox, within, box, near}
+use Rattle.counting_tree.specs.Geometry.{sameInt, sameInts, frame, N, side, sameBox, within, box, near, Nearer, FarReach}
 use Rattle.counting_tree.specs.WholeFrames.{Pair, no-channel, channel, cell-frames}
 use Rattle.counting_tree.specs.WholeDistance.{within-frames}
 use Rattle.counting_tree.specs.Answers.{disjoint-sound, covered-sound, last-sound}
@@ -76,8 +76,8 @@ module _ (v : ValidParams) (fs : List Frame) where
   box-same q l i j h =
       ap (λ (z : List ℤ). intersection (v .channels) (v .tolerance) (v .«appx_tolerance») (side v fs l) (map (centre (side v fs l)) z) (floats (frame v fs q))) (same-indexes l i j h)
 
-  pub far-turn : (p q : ℕ) → N v fs p q * 4 ^ v .s < v .t * (2 ^ v .s + 1) * (v .t * (2 ^ v .s + 1)) + 4 ^ v .s → N v fs q p * 4 ^ v .s < v .t * (2 ^ v .s + 1) * (v .t * (2 ^ v .s + 1)) + 4 ^ v .s
-  far-turn p q h = subst (λ (n : ℕ). n * 4 ^ v .s < v .t * (2 ^ v .s + 1) * (v .t * (2 ^ v .s + 1)) + 4 ^ v .s) (squared-swap (frame v fs p) (frame v fs q)) h
+  pub far-turn : (p q : ℕ) → FarReach v fs p q → FarReach v fs q p
+  far-turn p q h = rw (squared-swap (frame v fs p) (frame v fs q)) at h
 
 -- ---- two frames of the domain
 count-small : (z : ℤ) → Count z → natAbs z ≤ 2 ^ 15
@@ -122,13 +122,13 @@ module _ (v : ValidParams) (fs : List Frame) (D : Domain v fs) where
   deep l h = let p = D .settings .power in omega arith
 
   -- a Disjoint box has no frame nearer than t under it
-  pub disjoint : (q l x : ℕ) → q < length fs → x < length fs → l ≤ levels (v .s) → box v fs q l x ≡ Disjoint → N v fs q x < v .t * v .t → ⊥
+  pub disjoint : (q l x : ℕ) → q < length fs → x < length fs → l ≤ levels (v .s) → box v fs q l x ≡ Disjoint → Nearer v fs q x → ⊥
   unfolding box side
   disjoint q l x hq hx hl e =
       disjoint-sound (D .settings .scale) l (deep l hl) (frame v fs q) (frame v fs x) (frames-pair q x hq hx) (D .channels-are q hq) (D .channels-are x hx) (v .«appx_tolerance») (D .settings .extended) e
 
   -- a FullyCovered box has only frames within the far reach under it
-  pub covered : (q l x : ℕ) → q < length fs → x < length fs → l ≤ levels (v .s) → box v fs q l x ≡ FullyCovered → N v fs q x * 4 ^ v .s < v .t * (2 ^ v .s + 1) * (v .t * (2 ^ v .s + 1)) + 4 ^ v .s
+  pub covered : (q l x : ℕ) → q < length fs → x < length fs → l ≤ levels (v .s) → box v fs q l x ≡ FullyCovered → FarReach v fs q x
   unfolding box side
   covered q l x hq hx hl e =
       in-reach (N v fs q x) (mag (v .«appx_tolerance»)) (2 ^ v .s) (v .t * (2 ^ v .s + 1)) unit (4 ^ v .s) (pow-pos (v .s)) (four-power (v .s)) (D .settings .scaled)
@@ -146,7 +146,7 @@ module _ (v : ValidParams) (fs : List Frame) (D : Domain v fs) where
   unfolding side
   cell-near i j h k e = cell-frames (D .settings .scale) (frame v fs i) (frame v fs j) (frames-pair i j h k) (frames-pair j i k h) (same-indexes v fs 0 i j e) (D .channels-are i h)
 
-  pub cell : (i j : ℕ) → i < length fs → j < length fs → T (sameBox v fs 0 i j) → N v fs i j * 4 ^ v .s < v .t * (2 ^ v .s + 1) * (v .t * (2 ^ v .s + 1)) + 4 ^ v .s
+  pub cell : (i j : ℕ) → i < length fs → j < length fs → T (sameBox v fs 0 i j) → FarReach v fs i j
   cell i j h k e = cell-reach (N v fs i j) (v .t) (2 ^ v .s) (4 ^ v .s) (pow-pos (v .s)) (four-power (v .s)) (cell-near i j h k e)
 
   -- between frames "distance ≤ t" is "sum of squares ≤ t × t"
