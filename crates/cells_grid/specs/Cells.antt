@@ -73,6 +73,7 @@ module _ (g : Geometry) where
   unfolding coreMembers
   coreCell c = nonzero (length (coreMembers c))
 
+  -- the core cells in ascending cell number
   unfoldable pub coreCells : List ℕ
   unfolding cells coreCell
   coreCells = keep coreCell cells

@@ -14,6 +14,7 @@ abbrev pub framesIn : ℕ → ℕ → List ℤ → List Frame
 framesIn zero d ps = []
 framesIn (suc n) d ps = take d ps ∷ framesIn n d (drop d ps)
 
+-- all the frames of the points
 unfoldable pub framesOf : ℕ → List ℤ → List Frame
 framesOf d ps = framesIn (length ps / d) d ps
 

@@ -46,9 +46,11 @@ abbrev pub short : ℕ
 short = 4
 
 module _ (v : ValidParams) (fs : List Frame) where
+  -- frame number i
   abbrev pub frame : ℕ → Frame
   frame i = getD fs i []
 
+  -- "N the sum of squared differences" of frames i and j
   abbrev pub N : ℕ → ℕ → ℕ
   N i j = squared (frame i) (frame j)
 
@@ -67,6 +69,7 @@ module _ (v : ValidParams) (fs : List Frame) where
   unfolding distance le
   within i j = le (distance (floats (frame i)) (floats (frame j))) (v .tolerance)
 
+  -- "Box against frame q": of the box of level l in which frame x lies
   unfoldable pub box : ℕ → ℕ → ℕ → IntersectionType
   unfolding intersection side centres
   box q l x = intersection (v .channels) (v .tolerance) (v .«appx_tolerance») (side l) (centres (side l) (frame x)) (floats (frame q))
@@ -83,6 +86,7 @@ module _ (v : ValidParams) (fs : List Frame) where
   abbrev pub FarReach : ℕ → ℕ → Type 0
   FarReach p q = N p q * 4 ^ v .s < v .t * (2 ^ v .s + 1) * (v .t * (2 ^ v .s + 1)) + 4 ^ v .s
 
+-- the geometry of document 01, with the factor of its lists as a parameter
 unfoldable pub geometryOf : ℕ → ValidParams → List Frame → Geometry
 unfolding sameBox within box near
 geometryOf factor v fs = record {

@@ -37,6 +37,7 @@ indexAt side h c =
       ]
     ]
 
+-- the index of a count at a side
 unfoldable pub index : Float → ℤ → ℤ
 unfolding indexAt half ofInt
 index side c = indexAt side (half side) (ofInt binary64 c)
