@@ -1,4 +1,3 @@
-pub mod Within
 pub mod Phases
 pub mod Answer
 pub mod Call

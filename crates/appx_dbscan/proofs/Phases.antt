@@ -1,5 +1,5 @@
 -- The phases of a run in the work words: what each finds there, and what stands there in the end.
-use mathlib.Core.Path.{_≡_, ap, ap₂, _∙_}
+use mathlib.Core.Path.{_≡_, ap, ap₂, subst, _∙_}
 use mathlib.Core.Bool.{Bool, true, false, cond}
 use mathlib.Core.List.{List, [], _∷_}
 use Prim.Native.Nat.{ℕ, _+_, _*_, _<_, _≤_}
@@ -11,16 +11,18 @@ use lib.ListN.{length, getD}
 use Rattle.lists.specs.Lists.{numbers, howMany, Below}
 use Rattle.lists.specs.Words.{over, part, column, Clear}
 use Rattle.lists.specs.ListLaws.{length-numbers, in-map, in-numbers, keep-same}
-use Rattle.lists.specs.PartLaws.{part-under, part-same}
+use Rattle.lists.specs.PartLaws.{part-under, part-same, clear-before, clear-after, clear-within}
+use Rattle.lists.specs.WordLaws.{over-length}
 use Rattle.hyperparams.specs.Params.{workWords}
 use Rattle.hyperparams.specs.declared.ValidParams.{ValidParams}
 use Rattle.counting_tree.specs.Geometry.{Geometry}
 use Rattle.counting_tree.specs.Ready.{geometryAt, Ready, at-frames, at-levels}
-use Rattle.cells_grid.specs.Cells.{cells, cellNumber, core}
+use Rattle.cells_grid.specs.Cells.{cells, core}
 use Rattle.cells_grid.specs.Lawful.{Lawful}
 use Rattle.cells_grid.specs.Ready.{ready-lawful}
-use Rattle.cells_grid.specs.Arrangement.{arranged, startAt, coreBit, Arranged, Cored}
-use Rattle.cells_grid.specs.ArrangementLaws.{cells-le, arranged-length, cored, core-word, populated-arranged}
+use Rattle.cells_grid.specs.Arrangement.{coreBit, Arranged, Cored}
+use Rattle.cells_grid.specs.ArrangementLaws as ArrangementLaws
+use Rattle.cells_grid.specs.ArrangementLaws.{cells-le, cored, core-word, populated-arranged}
 use Rattle.cells_grid.specs.Places.{populated}
 use Rattle.core_cells.specs.Forest.{treeWord, forestTo, Grown}
 use Rattle.core_cells.specs.ForestLaws.{forest-length, nodes-fit, grown, grown-over}
@@ -28,7 +30,7 @@ use Rattle.clustering.specs.Clusters.{clusters, place, touched, borderKind, lab
 use Rattle.clustering.specs.Uniting.{lowestAt}
 use Rattle.clustering.specs.Numbering.{clusterWord}
 use Rattle.appx_dbscan.specs.Filled.{treed, filled}
-use Rattle.appx_dbscan.proofs.Within.{Within, within-self, within-over, within-more, within-clear}
+use Rattle.lists.specs.Within.{Within, within-over, within-more, within-clear}
 
 -- a kind is 0, 1 or 2
 kind-low : (g : Geometry) (i : ℕ) → kindOf g i < 3
@@ -42,6 +44,10 @@ kind-low g i = by (core g i) (touched g i)
     by : (b : Bool) (cs : List ℕ) → cond b 2 (borderKind cs) < 3
     by true cs = omega arith
     by false cs = border cs
+
+-- three of the six words a frame that are clear
+pub few-clear : (n : ℕ) (w : List ℕ) → Clear w (10 * n) (6 * n) → Clear w (10 * n) (3 * n)
+few-clear n w c = clear-within w (10 * n) (6 * n) (10 * n) (3 * n) c (omega arith) (omega arith)
 
 -- a run may be made on the frames, and w are the words before it
 module _ {ps : List ℤ} {v : ValidParams} {n : ℕ} (r : Ready ps v n) (w : List ℕ) (room : workWords n (v .s) ≤ length w) where
@@ -80,16 +86,10 @@ module _ {ps : List ℤ} {v : ValidParams} {n : ℕ} (r : Ready ps v n) (w : Lis
 
   -- ---- `populate`
   populated-within : Within (4 * n) w (populated g w)
-  unfolding populated
-  populated-within =
-      let f = g .frames in
-      let q = e in
-      let h : 4 * n ≤ length w = omega arith in
-      within-over (within-over (within-over (within-over (within-self (4 * n) w)
-      0 (column (cellNumber g) f) (omega (arith, length-numbers (cellNumber g) f)) h)
-      f (cells g) (omega (arith, few)) h)
-      (2 * f) (column (startAt g) k) (omega (arith, few, length-numbers (startAt g) k)) h)
-      (3 * f) (arranged g) (omega (arith, arranged-length g L)) h
+  populated-within = subst (λ (f : ℕ). Within (4 * f) w (populated g w)) e (ArrangementLaws.populated-within g L w (omega (arith, e)))
+
+  clear-after-populate : Clear w (10 * n) (6 * n) → Clear (populated g w) (10 * n) (6 * n)
+  clear-after-populate = within-clear populated-within (10 * n) (6 * n) (omega arith)
 
   after-populate : Arranged g k (populated g w)
   after-populate = populated-arranged g L w (omega (arith, e))
@@ -101,8 +101,8 @@ module _ {ps : List ℤ} {v : ValidParams} {n : ℕ} (r : Ready ps v n) (w : Lis
   after-label-points : Cored g k (over (populated g w) (4 * n) cores)
   after-label-points = cored g after-populate n e (omega (arith, populated-within .size))
 
-  clear-after-label-points : Clear w (10 * n) (3 * n) → Clear (over (populated g w) (4 * n) cores) (10 * n) (3 * n)
-  clear-after-label-points = within-clear cored-within (10 * n) (3 * n) (omega arith)
+  clear-after-label-points : Clear w (10 * n) (6 * n) → Clear (over (populated g w) (4 * n) cores) (10 * n) (6 * n)
+  clear-after-label-points = within-clear cored-within (10 * n) (6 * n) (omega arith)
 
   -- ---- `build_trees`
   treed-within : Within m w (treed g n w)
@@ -111,6 +111,15 @@ module _ {ps : List ℤ} {v : ValidParams} {n : ℕ} (r : Ready ps v n) (w : Lis
       within-over (within-over (within-more cored-within m (omega arith))
       (5 * n) (column (treeWord g) k) (omega (arith, few, length-numbers (treeWord g) k)) room)
       (16 * n) (forestTo g k) nodes-room room
+
+  clear-after-build-trees : Clear w (10 * n) (6 * n) → Clear (treed g n w) (10 * n) (6 * n)
+  unfolding treed
+  clear-after-build-trees c =
+      let trees = column (treeWord g) k in
+      let cored = over (populated g w) (4 * n) cores in
+      let l = length-numbers (treeWord g) k in
+      clear-before (over cored (5 * n) trees) (10 * n) (6 * n) (16 * n) (forestTo g k) (omega (arith, few, cored-within .size, over-length cored (5 * n) trees (omega (arith, few, cored-within .size)))) (omega arith)
+      (clear-after cored (10 * n) (6 * n) (5 * n) trees (omega (arith, cored-within .size)) (omega (arith, few)) (clear-after-label-points c))
 
   after-build-trees : Grown g k (treed g n w)
   unfolding treed
@@ -166,6 +175,9 @@ module _ {ps : List ℤ} {v : ValidParams} {n : ℕ} (r : Ready ps v n) (w : Lis
     pub arranged₁ : Arranged g k₁ w₁
     arranged₁ = rw (p, e₁) after-populate
 
+    pub clear₁ : Clear w (10 * n) (6 * n) → Clear w₁ (10 * n) (6 * n)
+    clear₁ c = rw e₁ (clear-after-populate c)
+
     module _ {w₂ : List ℕ} (e₂ : w₂ ≡ over w₁ (4 * n) cores) where
       same₂ : w₂ ≡ over (populated g w) (4 * n) cores
       same₂ = e₂ ∙ ap (λ (x : List ℕ). over x (4 * n) cores) e₁
@@ -173,8 +185,8 @@ module _ {ps : List ℤ} {v : ValidParams} {n : ℕ} (r : Ready ps v n) (w : Lis
       pub cored₂ : Cored g k₁ w₂
       cored₂ = rw (p, same₂) after-label-points
 
-      pub clear₂ : Clear w (10 * n) (3 * n) → Clear w₂ (10 * n) (3 * n)
-      clear₂ c = rw same₂ (clear-after-label-points c)
+      pub clear₂ : Clear w (10 * n) (6 * n) → Clear w₂ (10 * n) (3 * n)
+      clear₂ c = rw same₂ (few-clear n (over (populated g w) (4 * n) cores) (clear-after-label-points c))
 
       module _ {w₃ : List ℕ} (e₃ : w₃ ≡ over (over w₂ (5 * n) (column (treeWord g) k₁)) (16 * n) (forestTo g k₁)) where
         same₃ : w₃ ≡ treed g n w
@@ -183,6 +195,9 @@ module _ {ps : List ℤ} {v : ValidParams} {n : ℕ} (r : Ready ps v n) (w : Lis
 
         pub grown₃ : Grown g k₁ w₃
         grown₃ = rw (p, same₃) after-build-trees
+
+        pub clear₃ : Clear w (10 * n) (6 * n) → Clear w₃ (10 * n) (6 * n)
+        clear₃ c = rw same₃ (clear-after-build-trees c)
 
         pub filled₄ : {w₄ : List ℕ}
             → w₄ ≡ over (over (over (over w₃ (6 * n) (column (lowestAt g (n * n)) k₁)) (7 * n) (column (clusterWord g) k₁)) (8 * n) labels) (9 * n) kinds

@@ -1,10 +1,10 @@
 -- Demand 3 holds of the labels and kinds of `transformOf`, for any sound geometry; and of any numbers of the clusters, as far as these keep linked cells together and others apart.
-use mathlib.Core.Path.{_≡_, refl, sym, ap, _∙_, subst}
+use mathlib.Core.Path.{_≡_, refl, sym, ap, _∙_}
 use mathlib.Core.Logic.{inl, inr, _↔_}
-use mathlib.Core.Bool.{true, not}
+use mathlib.Core.Bool.{not}
 use mathlib.Core.List.{List, [], _∷_}
-use Prim.Native.Nat.{ℕ, zero, suc, _+_, _≤_, _<_}
-use native.Mathlib.Nat.{le-of-eq, le-trans, lt-of-lt-of-le, zero-add, add-zero}
+use Prim.Native.Nat.{ℕ, _+_, _≤_, _<_}
+use native.Mathlib.Nat.{le-of-eq, le-trans, lt-of-lt-of-le, add-zero}
 use native.Mathlib.Omega.{arith}
 use lib.Dec.{T, T-not}
 use lib.ListN.{length, drop, getD, length-append, List·getD-append}
@@ -13,9 +13,8 @@ use Rattle.lists.specs.ListLaws.{T-or-not, or-cases, or-one, any-in, in-any, at
 use Rattle.lists.specs.Words.{over}
 use Rattle.lists.specs.Chains.{Chain, alone, step, chain-first, chain-last}
 use Rattle.counting_tree.specs.Geometry.{Geometry}
-use Rattle.counting_tree.specs.declared.IntersectionType.{IntersectionType}
-use Rattle.counting_tree.specs.declared.IntersectionType.the-variants.{Disjoint, FullyCovered, Intersecting}
-use Rattle.counting_tree.specs.Paths.{onBox, reaches}
+use Rattle.counting_tree.specs.Paths.{reaches}
+use Rattle.counting_tree.specs.Reach.{far-path, near-path}
 use Rattle.cells_grid.specs.Cells.{sameCell, first, listed, core, coreMembers, coreCells, count}
 use Rattle.cells_grid.specs.CellLaws.{cell-first, core-in, in-core, in-core-cell, core-cell-frame, first-same, first-in, first-cell, core-first, count-same, listed-same, listed-turn, count-path}
 use Rattle.clustering.specs.Clusters.{place, none, touches, linked, clusters, touched, labelBy, kindOf}
@@ -59,50 +58,19 @@ module _ (g : Geometry) where
       longer ws xs h = simp length-append (omega arith)
 
 module _ (g : Geometry) (Near Far : ℕ → ℕ → Type 0) (S : Sound g Near Far) where
-  -- ---- a frame that reaches by its own path lies within the far reach, and a frame nearer than t reaches
-  module _ (q x : ℕ) (hq : q < g .frames) (hx : x < g .frames) where
-    far-path : (k l : ℕ) → k + l ≡ g .levels → T (reaches (g .box q) k l x) → Far q x
-    unfolding reaches
-    far-path zero l e t = go (g .box q l x) refl t
-      where
-        go : (v : IntersectionType) → g .box q l x ≡ v → T (onBox v true) → Far q x
-        go Disjoint p t = absurd t
-        go FullyCovered p t = S .covered q l x hq hx (omega arith) p
-        go Intersecting p t = absurd (S .last q x hq hx (subst (λ (n : ℕ). g .box q n x ≡ Intersecting) (sym (zero-add l) ∙ e) p))
-    far-path (suc k) l e t = go (g .box q l x) refl (far-path k (suc l) (omega arith)) t
-      where
-        go : (v : IntersectionType) → g .box q l x ≡ v → (T (reaches (g .box q) k (suc l) x) → Far q x) → T (onBox v (reaches (g .box q) k (suc l) x)) → Far q x
-        go Disjoint p r t = absurd t
-        go FullyCovered p r t = S .covered q l x hq hx (omega arith) p
-        go Intersecting p r t = r t
-
-    near-path : Near q x → (k l : ℕ) → k + l ≡ g .levels → T (reaches (g .box q) k l x)
-    unfolding reaches
-    near-path n zero l e = go (g .box q l x) refl
-      where
-        go : (v : IntersectionType) → g .box q l x ≡ v → T (onBox v true)
-        go Disjoint p = S .disjoint q l x hq hx (omega arith) p n
-        go FullyCovered p = tt
-        go Intersecting p = tt
-    near-path n (suc k) l e = go (g .box q l x) refl (near-path n k (suc l) (omega arith))
-      where
-        go : (v : IntersectionType) → g .box q l x ≡ v → T (reaches (g .box q) k (suc l) x) → T (onBox v (reaches (g .box q) k (suc l) x))
-        go Disjoint p r = S .disjoint q l x hq hx (omega arith) p n
-        go FullyCovered p r = tt
-        go Intersecting p r = r
-
   -- a core frame nearer than t gives a non-zero count in its cell's tree
   pub near-count : (q p : ℕ) → q < g .frames → CoreFrame g p → Near q p → T (nonzero (count g q p))
   near-count q p h c n = rw (count-path g (S .lawful) q p)
       (any-in (reaches (g .box q) (g .levels) 0) p (coreMembers g p) (core-in g p p (c .inside) (c .is-core) (S .lawful .same-self 0 p))
-      (near-path q p h (c .inside) n (g .levels) 0 (add-zero (g .levels))))
+      (near-path (g .box q) (g .levels) p (λ l k e. S .disjoint q l p h (c .inside) k e n) (g .levels) 0 (add-zero (g .levels))))
 
   -- a non-zero count comes from a core frame of that cell within the far reach
   pub far-count : (q i : ℕ) → q < g .frames → T (nonzero (count g q i)) → (x : ℕ) × CoreFrame g x × T (sameCell g i x) × Far q x
   far-count q i h n =
       let z = in-any (reaches (g .box q) (g .levels) 0) (coreMembers g i) (rw (count-path g (S .lawful) q i) at n) in
       let w = in-core g i (z .0) (z .1) in
-      (z .0, record { inside = w .0; is-core = w .1 }, w .2, far-path q (z .0) h (w .0) (g .levels) 0 (add-zero (g .levels)) (z .2))
+      let far = far-path (g .box q) (g .levels) (z .0) (λ l k e. S .covered q l (z .0) h (w .0) k e) (S .last q (z .0) h (w .0)) in
+      (z .0, record { inside = w .0; is-core = w .1 }, w .2, far (g .levels) 0 (add-zero (g .levels)) (z .2))
 
   -- ---- links and near steps
   -- a core frame is in the cell of its first frame

@@ -1,30 +1,36 @@
--- When a frame is core: the frames within t counted over the listed cells, and the size of its own cell.
+-- When a frame is core: the size of its cell, else the frames near it; and what is written of it.
 use mathlib.Core.Path.{_≡_, sym, ap, ap₂, subst, _∙_}
-use mathlib.Core.Bool.{Bool, true, false, cond}
+use mathlib.Core.Logic.{inl}
+use mathlib.Core.Bool.{Bool, true, cond}
 use mathlib.Core.List.{List}
 use Prim.Native.Nat.{ℕ, _+_, _-_, _*_, _<_, _≤_}
 use native.Mathlib.Omega.{arith}
 use lib.IntN.{ℤ}
 use lib.Dec.{leb}
-use lib.ListN.{length, getD}
+use lib.ListN.{length, getD, replicate}
 use borrow.Author.Tests.{le-leb, lt-leb}
-use Rattle.lists.specs.Lists.{numbers, howMany, total}
-use Rattle.lists.specs.Words.{column}
-use Rattle.lists.specs.OrderLaws.{kept-le}
-use Rattle.lists.specs.LoopLaws.{Sum, sum-start, Fill}
+use Rattle.lists.specs.Lists.{numbers, howMany}
+use Rattle.lists.specs.ListLaws.{length-numbers}
+use Rattle.lists.specs.Words.{over, column, Clear}
+use Rattle.lists.specs.WordLaws.{over-length}
+use Rattle.lists.specs.PartLaws.{clear-after, clear-within}
+use Rattle.lists.specs.LoopLaws.{Fill, fill-start, fill-length, fill-end}
 use Rattle.hyperparams.specs.declared.ValidParams.{ValidParams}
 use Rattle.counting_tree.specs.Geometry.{Geometry}
 use Rattle.counting_tree.specs.Ready.{geometryAt, Ready, at-frames, at-least}
-use Rattle.cells_grid.specs.Cells.{members, cells, cellNumber, listed, dense, neighbour, core}
+use Rattle.cells_grid.specs.Cells.{members, cells, cellNumber, dense, neighbour, core}
 use Rattle.cells_grid.specs.Lawful.{Lawful}
 use Rattle.cells_grid.specs.Arrangement.{cellAt, coreBit, Arranged}
 use Rattle.cells_grid.specs.Places.{endIn}
 use Rattle.cells_grid.specs.Ready.{ready-lawful}
-use Rattle.cells_grid.specs.ArrangementLaws.{number-below, listed-number, members-number, neighbours-by-number, words-count, words-room, number-word, cell-size, arranged-over}
+use Rattle.cells_grid.specs.ArrangementLaws.{number-below, members-number, words-count, words-room, number-word, cell-size, arranged-over}
+use Rattle.cells_grid.specs.Blocks.{headsOf, nextOf, hashed, Hashed}
+use Rattle.cells_grid.specs.HashLaws.{heads-length, hashed-length, hashed-after, hashed-over, hash-under, hash-cleared}
+use Rattle.cells_grid.specs.Crowding.{every}
 
--- how many frames of cell c lie within t of frame i, if frame i's cell lists it
-abbrev pub inRange : Geometry → ℕ → ℕ → ℕ
-inRange g i c = cond (listed g i (cellAt g c)) (howMany (g .within i) (members g (cellAt g c))) 0
+-- the count of the cells is that of the definition
+pub all-cells : {g : Geometry} {k : ℕ} {w : List ℕ} → Arranged g k w → Arranged g (length (cells g)) w
+all-cells {g} {k} {w} A = subst (λ m. Arranged g m w) (A .count) A
 
 module _ {ps : List ℤ} {v : ValidParams} {n k i : ℕ} {w : List ℕ} (p : Ready ps v n × Arranged (geometryAt v n ps) k w × (i < n)) where
   abbrev g : Geometry
@@ -42,24 +48,8 @@ module _ {ps : List ℤ} {v : ValidParams} {n k i : ℕ} {w : List ℕ} (p : Rea
   pub own-fits : i < length w
   own-fits = omega (arith, p .2, words-room g L (p .1) n e)
 
-  crowd : howMany (neighbour g i) (numbers n) ≡ total (inRange g i) (numbers k)
-  crowd =
-      ap (λ (m : ℕ). howMany (neighbour g i) (numbers m)) (sym e)
-      ∙ neighbours-by-number g L i
-      ∙ ap (λ (m : ℕ). total (inRange g i) (numbers m)) (sym (p .1 .count))
-
-  pub crowd-least : g .least ≡ v .«min_points»
+  crowd-least : g .least ≡ v .«min_points»
   crowd-least = at-least v n ps
-
-  pub crowd-start : Sum (inRange g i) k (g .least) 0 0
-  crowd-start = sum-start (omega (arith, crowd-least, p .0 .least))
-
-  pub crowd-le : total (inRange g i) (numbers k) ≤ n
-  crowd-le = omega (arith, crowd, kept-le (neighbour g i) n)
-
-  -- the answer of the loop is that of the definition
-  pub crowd-is : (b : Bool) → leb (g .least) (total (inRange g i) (numbers k)) ≡ b → b ≡ leb (g .least) (howMany (neighbour g i) (numbers n))
-  crowd-is b t = sym (ap (leb (g .least)) crowd ∙ t)
 
   module _ {own : ℕ} (q : own ≡ getD w i 0) where
     number : own ≡ cellNumber g i
@@ -68,21 +58,6 @@ module _ {ps : List ℤ} {v : ValidParams} {n k i : ℕ} {w : List ℕ} (p : Rea
     pub own-below : own < k
     own-below = omega (arith, number, number-below g L i inside, p .1 .count)
 
-    -- what `is_listed` requires, and what it answered
-    pub own-listed : {c : ℕ} → c < k → (Ready ps v n × Arranged g (length (cells g)) w) × ((own < length (cells g)) × (c < length (cells g)))
-    own-listed h = ((p .0, subst (λ m. Arranged g m w) (p .1 .count) (p .1)), (omega (arith, own-below, p .1 .count), omega (arith, p .1 .count)))
-
-    module _ (c : ℕ) {r : Bool} (s : r ≡ listed g (cellAt g own) (cellAt g c)) where
-      list : r ≡ listed g i (cellAt g c)
-      list = s ∙ ap (λ (d : ℕ). listed g (cellAt g d) (cellAt g c)) number ∙ listed-number g L i (cellAt g c) inside
-
-      pub range-listed : r ≡ true → {x : ℕ} → x ≡ howMany (g .within i) (members g (cellAt g c)) → x ≡ inRange g i c
-      range-listed t f = f ∙ ap (λ (b : Bool). cond b (howMany (g .within i) (members g (cellAt g c))) 0) (sym t ∙ list)
-
-      pub range-other : r ≡ false → inRange g i c ≡ 0
-      range-other t = ap (λ (b : Bool). cond b (howMany (g .within i) (members g (cellAt g c))) 0) (sym list ∙ t)
-
-    -- ---- core frames
     -- what `cell_end` requires of frame i's cell
     pub own-end : (own < k) × (k ≤ n) × (3 * n ≤ length w)
     own-end = (own-below, words-count g L (p .1) n e, omega (arith, words-room g L (p .1) n e))
@@ -104,9 +79,50 @@ module _ {ps : List ℤ} {v : ValidParams} {n k i : ℕ} {w : List ℕ} (p : Rea
           (lt-leb (g .least) (length (members g i)) (omega (arith, size, crowd-least)))
           (ap (λ (m : ℕ). leb (g .least) (howMany (neighbour g i) (numbers m))) e ∙ sym q ∙ t))
 
--- core frames are written above the arrangement
-pub fill-arranged : {ps : List ℤ} {v : ValidParams} {n k : ℕ} {w₀ w : List ℕ} {f : ℕ → ℕ} {i : ℕ} → Ready ps v n → Arranged (geometryAt v n ps) k w₀ → Fill f w₀ (4 * n) n w i
-    → Arranged (geometryAt v n ps) k w
-fill-arranged {ps} {v} {n} {k} {w₀} {w} {f} {i} r A F =
-    let g = geometryAt v n ps in
-    subst (Arranged g k) (sym (F .work)) (arranged-over g (4 * n) (column f i) (omega (arith, at-frames v n ps)) (omega (arith, F .fit)) A)
+-- ---- core frames are written between the arrangement and the hashed frames
+module _ {ps : List ℤ} {v : ValidParams} {n k : ℕ} (w₀ : List ℕ)
+    (p : Ready ps v n × Arranged (geometryAt v n ps) k w₀ × (16 * n ≤ length w₀) × Clear w₀ (10 * n) (6 * n)) where
+  pub label-hash : Ready ps v n × (16 * n ≤ length w₀) × Clear w₀ (10 * n) (6 * n)
+  label-hash = (p .0, p .2, p .3)
+
+  H : length (hashed (v .t) v n ps every n w₀) ≡ length w₀
+  H = hashed-length (v .t) v n ps every n w₀ (omega arith) (omega (arith, p .2))
+
+  pub label-start : {h : List ℕ} → h ≡ hashed (v .t) v n ps every n w₀ → Fill (coreBit (geometryAt v n ps)) h (4 * n) n h 0
+  label-start e = fill-start (omega (arith, ap length e, H, p .2))
+
+  module _ {h : List ℕ} (e : h ≡ hashed (v .t) v n ps every n w₀) {w : List ℕ} {i : ℕ} (G : Fill (coreBit (geometryAt v n ps)) h (4 * n) n w i) where
+    F : Fill (coreBit (geometryAt v n ps)) (hashed (v .t) v n ps every n w₀) (4 * n) n w i
+    F = subst (λ (z : List ℕ). Fill (coreBit (geometryAt v n ps)) z (4 * n) n w i) e G
+
+    abbrev C : List ℕ
+    C = column (coreBit (geometryAt v n ps)) i
+
+    pub label-length : length w ≡ length w₀
+    label-length = fill-length F ∙ H
+
+    pub label-arranged : Arranged (geometryAt v n ps) k w
+    unfolding hashed
+    label-arranged =
+        let g = geometryAt v n ps in
+        let f = at-frames v n ps in
+        let l = heads-length (v .t) v n ps every n in
+        let u : List ℕ = over w₀ (10 * n) (headsOf (v .t) v n ps every n) in
+        let lu : length u ≡ length w₀ = over-length w₀ (10 * n) (headsOf (v .t) v n ps every n) (omega (arith, p .2)) in
+        subst (Arranged g k) (sym (F .work))
+        (arranged-over g (4 * n) C (omega arith) (omega (arith, p .2, H))
+        (arranged-over g (14 * n) (column (nextOf (v .t) v n ps every) n) (omega arith) (omega (arith, p .2))
+        (arranged-over g (10 * n) (headsOf (v .t) v n ps every n) (omega arith) (omega (arith, p .2)) (p .1))))
+
+    pub label-hashed : Hashed (v .t) v n ps every w
+    label-hashed = subst (Hashed (v .t) v n ps every) (sym (F .work))
+        (hashed-over (v .t) v n ps every (4 * n) C (omega (arith, p .2, H)) (inl (omega (arith, length-numbers (coreBit (geometryAt v n ps)) i, F .high))) (hashed-after (v .t) v n ps every w₀ (omega (arith, p .2))))
+
+    pub label-end : n ≤ i → over w (10 * n) (replicate (5 * n) 0) ≡ over w₀ (4 * n) (column (coreBit (geometryAt v n ps)) n)
+    label-end h =
+        let D : List ℕ = column (coreBit (geometryAt v n ps)) n in
+        let d : length D ≡ n = length-numbers (coreBit (geometryAt v n ps)) n in
+        let l : length (over w₀ (4 * n) D) ≡ length w₀ = over-length w₀ (4 * n) D (omega (arith, p .2)) in
+        ap (λ (z : List ℕ). over z (10 * n) (replicate (5 * n) 0)) (fill-end F h ∙ hash-under (v .t) v n ps every w₀ (4 * n) D (omega arith) (omega (arith, p .2)))
+        ∙ hash-cleared (v .t) v n ps every (over w₀ (4 * n) D) (omega (arith, p .2))
+        (clear-after w₀ (10 * n) (5 * n) (4 * n) D (omega (arith, p .2)) (omega arith) (clear-within w₀ (10 * n) (6 * n) (10 * n) (5 * n) (p .3) (omega arith) (omega arith)))

@@ -1,102 +1,227 @@
--- Loops that fill two regions at once: cell numbers and first frames as frames are inserted, starts and places as cells are gathered.
-use mathlib.Core.Path.{_≡_, refl, sym, ap, ap₂, _∙_}
-use mathlib.Core.Bool.{Bool, cond}
+-- Frames are inserted: cell numbers, first frames and buckets grow frame by frame; and what `populate` lays in the end.
+use mathlib.Core.Path.{_≡_, refl, sym, ap, ap₂, subst, _∙_}
+use mathlib.Core.Logic.{inl}
+use mathlib.Core.Bool.{Bool, true, false, cond}
 use mathlib.Core.List.{List, [], _∷_, _++_, append-nil}
 use Prim.Native.Nat.{ℕ, zero, suc, _+_, _*_, _<_, _≤_}
 use native.Mathlib.Omega.{arith}
 use native.Mathlib.Numerals.{add-one}
 use lib.IntN.{ℤ}
 use lib.Dec.{ltb, eqb}
-use lib.ListN.{length, getD, set, length-append}
-use Rattle.lists.specs.Lists.{numbers, keep, howMany, concat}
-use Rattle.lists.specs.Words.{over, part, column}
-use Rattle.lists.specs.ListLaws.{keep-same, map-same, in-numbers, length-numbers}
+use lib.ListN.{length, getD, set, replicate, length-set, length-append, length-replicate}
+use Rattle.lists.specs.Lists.{numbers, keep, howMany, concat, In, Below}
+use Rattle.lists.specs.Words.{over, part, column, Clear}
+use Rattle.lists.specs.Buckets.{Bucketed}
+use Rattle.lists.specs.ListLaws.{keep-same, map-same, in-map, in-numbers, length-numbers}
 use Rattle.lists.specs.CountLaws.{concat-append}
-use Rattle.lists.specs.OrderLaws.{kept-snoc, kept-le}
-use Rattle.lists.specs.WordLaws.{over-length, over-nil, over-grow, set-over}
-use Rattle.lists.specs.PartLaws.{part-same, column-snoc, get-under, holds-at-0}
-use Rattle.lists.specs.LoopLaws.{Gather}
+use Rattle.lists.specs.OrderLaws.{kept-snoc, many-snoc, kept-le}
+use Rattle.lists.specs.WordLaws.{over-length, over-nil, over-again, over-apart, over-grow, set-over, set-laid}
+use Rattle.lists.specs.PartLaws.{part-under, part-same, column-snoc, get-under, holds-at-0, clear-over, clear-after, clear-within}
+use Rattle.lists.specs.BucketLaws.{bucketed-none, bucketed-over, bucketed-push}
 use Rattle.hyperparams.specs.Params.{maxFrames}
 use Rattle.hyperparams.specs.declared.ValidParams.{ValidParams}
 use Rattle.counting_tree.specs.Geometry.{Geometry}
 use Rattle.counting_tree.specs.Ready.{geometryAt, Ready, at-frames}
 use Rattle.cells_grid.specs.Cells.{isCell, cells, cellNumber}
-use Rattle.cells_grid.specs.Places.{Begun, numbered, startOf, placesOf, numberIn, populated}
+use Rattle.cells_grid.specs.Places.{Begun, chained, numbered, startOf, placesOf, numberIn, populated}
 use Rattle.cells_grid.specs.Lawful.{Lawful}
 use Rattle.cells_grid.specs.Arrangement.{arranged, startAt}
+use Rattle.cells_grid.specs.Hashing.{frameBucket, cellBucket}
+use Rattle.cells_grid.specs.HashingLaws.{frame-bucket-below}
 use Rattle.cells_grid.specs.Ready.{ready-lawful}
-use Rattle.cells_grid.specs.ArrangementLaws.{cells-le, start-by-number, arranged-by-number, start-of-none, start-of-next, start-of-le}
+use Rattle.cells_grid.specs.ArrangementLaws.{cells-le, number-below, start-by-number, arranged-by-number, start-of-none, start-of-next}
+use Rattle.cells_grid.proofs.Find.{new-cell-at}
 
--- ---- frames are inserted: those before i, in k cells
-pub record Inserted (g : Geometry) (n : ℕ) (w₀ w : List ℕ) (k i : ℕ) : Type 0 where
-  pub fit : n + n ≤ length w₀
+-- ---- frames are inserted: those before i, in k cells; `scratch` is what stands in the words of the buckets
+pub record Inserted (v : ValidParams) (n : ℕ) (ps : List ℤ) (w₀ w : List ℕ) (k i : ℕ) : Type 0 where
+  pub fit : 12 * n ≤ length w₀
+  pub clear : Clear w₀ (10 * n) (2 * n)
   pub high : i ≤ n
-  pub count : k ≡ howMany (isCell g) (numbers i)
-  pub work : w ≡ over (over w₀ 0 (column (cellNumber g) i)) n (keep (isCell g) (numbers i))
+  pub count : k ≡ howMany (isCell (geometryAt v n ps)) (numbers i)
+  pub scratch : List ℕ
+  pub wide : length scratch ≡ 2 * n
+  pub work : w ≡ over (over (over w₀ 0 (column (cellNumber (geometryAt v n ps)) i)) n (keep (isCell (geometryAt v n ps)) (numbers i))) (10 * n) scratch
+  pub chains : Bucketed (cellBucket v n ps) n k (10 * n) (11 * n) w
 
-pub inserted-start : {g : Geometry} {n : ℕ} {w₀ : List ℕ} → n + n ≤ length w₀ → Inserted g n w₀ w₀ 0 0
-inserted-start {g} {n} {w₀} h = record { fit = h; high = omega arith; count = refl; work = sym (ap (λ (z : List ℕ). over z n []) (over-nil w₀ 0) ∙ over-nil w₀ n) }
+pub inserted-start : {v : ValidParams} {n : ℕ} {ps : List ℤ} {w₀ : List ℕ} → (16 * n ≤ length w₀) × Clear w₀ (10 * n) (3 * n) → Inserted v n ps w₀ w₀ 0 0
+inserted-start {v} {n} {ps} {w₀} p = record {
+  fit = omega (arith, p .0);
+  clear = clear-within w₀ (10 * n) (3 * n) (10 * n) (2 * n) (p .1) (omega arith) (omega arith);
+  high = omega arith;
+  count = refl;
+  scratch = replicate (2 * n) 0;
+  wide = length-replicate {A = ℕ} (2 * n) 0;
+  work = sym (ap (λ (y : List ℕ). over (over y n []) (10 * n) (replicate (2 * n) 0)) (over-nil w₀ 0)
+      ∙ ap (λ (y : List ℕ). over y (10 * n) (replicate (2 * n) 0)) (over-nil w₀ n)
+      ∙ clear-over w₀ (10 * n) (2 * n) (omega (arith, p .0)) (clear-within w₀ (10 * n) (3 * n) (10 * n) (2 * n) (p .1) (omega arith) (omega arith)));
+  chains = bucketed-none (clear-within w₀ (10 * n) (3 * n) (10 * n) n (p .1) (omega arith) (omega arith));
+}
 
-module _ {g : Geometry} {n : ℕ} {w₀ w : List ℕ} {k i : ℕ} (I : Inserted g n w₀ w k i) where
+module _ {v : ValidParams} {n : ℕ} {ps : List ℤ} {w₀ w : List ℕ} {k i : ℕ} (I : Inserted v n ps w₀ w k i) where
+  abbrev grid : Geometry
+  grid = geometryAt v n ps
+
   abbrev C : List ℕ
-  C = column (cellNumber g) i
+  C = column (cellNumber grid) i
 
   abbrev K : List ℕ
-  K = keep (isCell g) (numbers i)
+  K = keep (isCell grid) (numbers i)
+
+  abbrev base : List ℕ
+  base = over (over w₀ 0 C) n K
 
   lc : length C ≡ i
-  lc = length-numbers (cellNumber g) i
+  lc = length-numbers (cellNumber grid) i
 
   lk : length K ≤ i
-  lk = kept-le (isCell g) i
+  lk = kept-le (isCell grid) i
 
   l₁ : length (over w₀ 0 C) ≡ length w₀
   l₁ = over-length w₀ 0 C (omega (arith, lc, I .fit, I .high))
 
+  l₂ : length base ≡ length w₀
+  l₂ = over-length (over w₀ 0 C) n K (omega (arith, l₁, lk, I .fit, I .high)) ∙ l₁
+
   pub inserted-length : length w ≡ length w₀
-  inserted-length = ap length (I .work) ∙ over-length (over w₀ 0 C) n K (omega (arith, l₁, lk, I .fit, I .high)) ∙ l₁
+  inserted-length = ap length (I .work) ∙ over-length base (10 * n) (I .scratch) (omega (arith, l₂, I .wide, I .fit)) ∙ l₂
 
-  pub inserted-begun : Begun g n i k w
-  inserted-begun = record {
-    count = I .count;
-    firsts = ap (λ (z : List ℕ). part z n k) (I .work) ∙ part-same (over w₀ 0 C) n k K (omega (arith, l₁, I .fit)) (sym (I .count));
-  }
+  few : k ≤ i
+  few = omega (arith, I .count, lk)
 
-  pub inserted-step : {r : ℕ} {v : List ℕ} → i < n → r ≡ howMany (isCell g) (numbers (i + 1)) → v ≡ over (over w i (cellNumber g i ∷ [])) (n + k) (cond (isCell g i) (i ∷ []) [])
-      → Inserted g n w₀ v r (i + 1)
-  inserted-step {r} {v} h p q = record {
-    fit = I .fit;
-    high = omega arith;
-    count = p;
-    work = q
-        ∙ ap (λ (z : List ℕ). over (over z i (cellNumber g i ∷ [])) (n + k) ys) (I .work)
-        ∙ over-grow w₀ 0 n i (n + k) C K (cellNumber g i ∷ []) ys (omega (arith, lc)) (omega (arith, I .count)) (omega arith)
-        (omega (arith, I .fit, I .count, kept-le (isCell g) (i + 1), ap length (kept-snoc (isCell g) i), length-append K ys))
-        ∙ ap₂ (λ (us vs : List ℕ). over (over w₀ 0 us) n vs) (sym (column-snoc (cellNumber g) i)) (sym (kept-snoc (isCell g) i));
-  }
-    where
-      ys : List ℕ
-      ys = cond (isCell g i) (i ∷ []) []
+  pub inserted-begun : Begun (geometryAt v n ps) n i k w × Bucketed (cellBucket v n ps) n k (10 * n) (11 * n) w
+  inserted-begun = (
+    record {
+      count = I .count;
+      firsts = ap (λ (z : List ℕ). part z n k) (I .work)
+          ∙ part-under base n k (10 * n) (I .scratch) (omega (arith, few, I .high)) (omega (arith, l₂, I .fit))
+          ∙ part-same (over w₀ 0 C) n k K (omega (arith, l₁, I .fit)) (sym (I .count));
+    },
+    I .chains,
+  )
 
-  pub inserted-end : n ≤ i → g .frames ≡ n → (k ≡ length (cells g)) × (w ≡ over (over w₀ 0 (column (cellNumber g) n)) n (cells g))
+  module _ (h : i < n) where
+    abbrev xs : List ℕ
+    xs = cellNumber grid i ∷ []
+
+    abbrev ys : List ℕ
+    ys = cond (isCell grid i) (i ∷ []) []
+
+    ly : k + length ys ≤ n
+    ly = omega (arith, I .count, kept-le (isCell grid) (i + 1), ap length (kept-snoc (isCell grid) i), length-append K ys)
+
+    -- the words with the cell number and the first frame, if i is one
+    abbrev w₁ : List ℕ
+    w₁ = over w i xs
+
+    abbrev w₂ : List ℕ
+    w₂ = over w₁ (n + k) ys
+
+    lw : length w₁ ≡ length w₀
+    lw = over-length w i xs (omega (arith, inserted-length, I .fit)) ∙ inserted-length
+
+    chains₂ : Bucketed (cellBucket v n ps) n k (10 * n) (11 * n) w₂
+    chains₂ = bucketed-over (bucketed-over (I .chains) i xs (omega (arith, inserted-length, I .fit)) (inl (omega arith)) (inl (omega arith)))
+        (n + k) ys (omega (arith, lw, ly, I .fit)) (inl (omega (arith, ly))) (inl (omega (arith, ly)))
+
+    abbrev base₂ : List ℕ
+    base₂ = over (over w₀ 0 (column (cellNumber grid) (i + 1))) n (keep (isCell grid) (numbers (i + 1)))
+
+    grown : over (over base i xs) (n + k) ys ≡ base₂
+    grown =
+        over-grow w₀ 0 n i (n + k) C K xs ys (omega (arith, lc)) (omega (arith, I .count)) (omega arith) (omega (arith, I .fit, ly))
+        ∙ ap₂ (λ (us vs : List ℕ). over (over w₀ 0 us) n vs) (sym (column-snoc (cellNumber grid) i)) (sym (kept-snoc (isCell grid) i))
+
+    l₃ : length (over base i xs) ≡ length w₀
+    l₃ = over-length base i xs (omega (arith, l₂, I .fit)) ∙ l₂
+
+    l₄ : length base₂ ≡ length w₀
+    l₄ = ap length (sym grown) ∙ over-length (over base i xs) (n + k) ys (omega (arith, l₃, ly, I .fit)) ∙ l₃
+
+    work₂ : w₂ ≡ over base₂ (10 * n) (I .scratch)
+    work₂ =
+        ap (λ (z : List ℕ). over (over z i xs) (n + k) ys) (I .work)
+        ∙ ap (λ (z : List ℕ). over z (n + k) ys) (sym (over-apart base i (10 * n) xs (I .scratch) (omega arith) (omega (arith, l₂, I .wide, I .fit))))
+        ∙ sym (over-apart (over base i xs) (n + k) (10 * n) ys (I .scratch) (omega (arith, ly)) (omega (arith, l₃, I .wide, I .fit)))
+        ∙ ap (λ (z : List ℕ). over z (10 * n) (I .scratch)) grown
+
+    -- a store into the words of the buckets
+    stored : (u : List ℕ) (j x : ℕ) → length u ≡ 2 * n → j < 2 * n → over (over base₂ (10 * n) u) (10 * n + j) (x ∷ []) ≡ over base₂ (10 * n) (set u j x)
+    stored u j x e l =
+        sym (set-over (over base₂ (10 * n) u) (10 * n + j) x (omega (arith, over-length base₂ (10 * n) u (omega (arith, l₄, I .fit)), l₄, I .fit)))
+        ∙ set-laid base₂ (10 * n) u j x (omega (arith, l₄, I .fit)) (omega arith)
+
+    inserted : {r : ℕ} {z : List ℕ} (t : Bool) → isCell grid i ≡ t → r ≡ howMany (isCell grid) (numbers (i + 1)) → r ≡ k + cond t 1 0 → z ≡ chained n (frameBucket v n ps i) k t w₂ → Inserted v n ps w₀ z r (i + 1)
+    unfolding chained
+    inserted {r} {z} true e c q p =
+        let b : ℕ = frameBucket v n ps i in
+        let x : ℕ = getD w₂ (10 * n + b) 0 in
+        let lb : b < n = frame-bucket-below v n ps i (omega arith) in
+        let s : cellBucket v n ps k ≡ b = ap (frameBucket v n ps) (new-cell-at grid i k (omega (arith, at-frames v n ps)) (I .count) e) in
+        let m : 11 * n + k ≡ 10 * n + (n + k) = omega arith in
+        let u : List ℕ = set (I .scratch) (n + k) x in
+        let lu : length u ≡ 2 * n = length-set (I .scratch) (n + k) x ∙ I .wide in
+        let l₅ : length w₂ ≡ length w₀ = over-length w₁ (n + k) ys (omega (arith, lw, ly, I .fit)) ∙ lw in
+        record {
+          fit = I .fit;
+          clear = I .clear;
+          high = omega arith;
+          count = c;
+          scratch = set u b (k + 1);
+          wide = length-set u b (k + 1) ∙ lu;
+          work = p
+              ∙ ap₂ (λ (y : List ℕ) (a : ℕ). over (over y a (x ∷ [])) (10 * n + b) ((k + 1) ∷ [])) work₂ m
+              ∙ ap (λ (y : List ℕ). over y (10 * n + b) ((k + 1) ∷ [])) (stored (I .scratch) (n + k) x (I .wide) (omega (arith, few)))
+              ∙ stored u b (k + 1) lu (omega arith);
+          chains = subst (λ (a : ℕ). Bucketed (cellBucket v n ps) n a (10 * n) (11 * n) z) (sym q)
+              (bucketed-push chains₂ (omega (arith, s)) (omega arith) (omega (arith, l₅, few, I .fit))
+              (p ∙ ap (λ (a : ℕ). over (over w₂ (11 * n + k) (getD w₂ (10 * n + a) 0 ∷ [])) (10 * n + a) ((k + 1) ∷ [])) (sym s)));
+        }
+    inserted {r} {z} false e c q p = record {
+      fit = I .fit;
+      clear = I .clear;
+      high = omega arith;
+      count = c;
+      scratch = I .scratch;
+      wide = I .wide;
+      work = p ∙ work₂;
+      chains = let s : r ≡ k = omega arith in subst (λ (a : ℕ). Bucketed (cellBucket v n ps) n a (10 * n) (11 * n) z) (sym s) (subst (Bucketed (cellBucket v n ps) n k (10 * n) (11 * n)) (sym p) chains₂);
+    }
+
+    pub inserted-step : {r : ℕ} {z : List ℕ} → r ≡ howMany (isCell (geometryAt v n ps)) (numbers (i + 1))
+        → z ≡ chained n (frameBucket v n ps i) k (isCell (geometryAt v n ps) i) (over (over w i (cellNumber (geometryAt v n ps) i ∷ [])) (n + k) (cond (isCell (geometryAt v n ps) i) (i ∷ []) []))
+        → Inserted v n ps w₀ z r (i + 1)
+    inserted-step c p = inserted (isCell grid i) refl c (c ∙ many-snoc (isCell grid) i ∙ ap (λ (m : ℕ). m + cond (isCell grid i) 1 0) (sym (I .count))) p
+
+  -- all frames, and the words of the buckets cleared
+  pub inserted-end : {z : List ℕ} → n ≤ i → z ≡ over w (10 * n) (replicate (2 * n) 0)
+      → (k ≡ length (cells (geometryAt v n ps))) × (z ≡ over (over w₀ 0 (column (cellNumber (geometryAt v n ps)) n)) n (cells (geometryAt v n ps)))
   unfolding cells
-  inserted-end h e =
-      let p : i ≡ n = omega (arith, I .high) in
-      let q : i ≡ g .frames = p ∙ sym e in (
-        I .count ∙ ap (λ (m : ℕ). howMany (isCell g) (numbers m)) q,
-        I .work ∙ ap₂ (λ (a b : ℕ). over (over w₀ 0 (column (cellNumber g) a)) n (keep (isCell g) (numbers b))) p q,
+  inserted-end {z} h p =
+      let e : i ≡ n = omega (arith, I .high) in
+      let q : i ≡ grid .frames = e ∙ sym (at-frames v n ps) in
+      let lz : length (replicate {A = ℕ} (2 * n) 0) ≡ 2 * n = length-replicate {A = ℕ} (2 * n) 0 in
+      let back : over base (10 * n) (replicate (2 * n) 0) ≡ base =
+      clear-over base (10 * n) (2 * n) (omega (arith, l₂, I .fit))
+      (clear-after (over w₀ 0 C) (10 * n) (2 * n) n K (omega (arith, l₁, I .fit)) (omega (arith, lk, I .high))
+      (clear-after w₀ (10 * n) (2 * n) 0 C (omega arith) (omega (arith, lc, I .high)) (I .clear))) in (
+        I .count ∙ ap (λ (m : ℕ). howMany (isCell grid) (numbers m)) q,
+        p
+            ∙ ap (λ (y : List ℕ). over y (10 * n) (replicate (2 * n) 0)) (I .work)
+            ∙ over-again base (10 * n) (I .scratch) (replicate (2 * n) 0) (omega (arith, l₂, I .fit)) (lz ∙ sym (I .wide))
+            ∙ back
+            ∙ ap₂ (λ (a b : ℕ). over (over w₀ 0 (column (cellNumber grid) a)) n (keep (isCell grid) (numbers b))) e q,
       )
 
--- ---- cells are gathered: those with a number below c
+-- ---- the frames of the cells with a number below c
 module _ (number : ℕ → ℕ) (n : ℕ) where
-  places-of-next : (c : ℕ) → placesOf number n (c + 1) ≡ placesOf number n c ++ numbered number n c
+  pub places-of-next : (c : ℕ) → placesOf number n (c + 1) ≡ placesOf number n c ++ numbered number n c
   unfolding placesOf
   places-of-next c =
       ap concat (column-snoc (numbered number n) c)
       ∙ concat-append (column (numbered number n) c) (numbered number n c ∷ [])
       ∙ ap (λ (r : List ℕ). concat (column (numbered number n) c) ++ r) (append-nil (numbered number n c))
 
-  places-of-none : placesOf number n 0 ≡ []
+  pub places-of-none : placesOf number n 0 ≡ []
   unfolding placesOf
   places-of-none = refl
 
@@ -118,94 +243,8 @@ module _ (f h : ℕ → ℕ) (n : ℕ) (e : (i : ℕ) → i < n → f i ≡ h i)
   unfolding placesOf
   places-of-same k = ap concat (map-same (numbered f n) (numbered h n) (numbers k) (λ c i. numbered-same c))
 
--- the cell number of a frame is not written over while a cell is gathered
-pub gather-same : {f : ℕ → Bool} {w₀ : List ℕ} {a n : ℕ} {w : List ℕ} {m i x : ℕ} → Gather f w₀ a n w m i → n ≤ a → i < n → x ≡ getD w i 0 → numberIn w₀ i ≡ x
-gather-same {f} {w₀} {a} {n} {w} {m} {i} G h l p =
-    sym (p ∙ ap (λ (z : List ℕ). getD z i 0) (G .work) ∙ get-under w₀ a i (keep f (numbers i)) (omega arith) (omega (arith, G .fit)))
-
-pub record Placed (n k : ℕ) (w₀ w : List ℕ) (start c : ℕ) : Type 0 where
-  pub fit : 5 * n ≤ length w₀
-  pub few : k ≤ n
-  pub high : c ≤ k
-  pub begin : start ≡ startOf (numberIn w₀) n c
-  pub work : w ≡ over (over w₀ (2 * n) (column (startOf (numberIn w₀) n) c)) (3 * n) (placesOf (numberIn w₀) n c)
-
-pub placed-start : {n k : ℕ} {w₀ : List ℕ} → 5 * n ≤ length w₀ → k ≤ n → Placed n k w₀ w₀ 0 0
-placed-start {n} {k} {w₀} h l = record {
-  fit = h;
-  few = l;
-  high = omega arith;
-  begin = sym (start-of-none (numberIn w₀) n);
-  work = sym (ap₂ (λ (z ys : List ℕ). over z (3 * n) ys) (over-nil w₀ (2 * n)) (places-of-none (numberIn w₀) n) ∙ over-nil w₀ (3 * n));
-}
-
-module _ {n k : ℕ} {w₀ w : List ℕ} {start c : ℕ} (P : Placed n k w₀ w start c) where
-  abbrev h : ℕ → ℕ
-  h = numberIn w₀
-
-  abbrev S : List ℕ
-  S = column (startOf h n) c
-
-  abbrev F : List ℕ
-  F = placesOf h n c
-
-  ls : length S ≡ c
-  ls = length-numbers (startOf h n) c
-
-  lf : length F ≡ start
-  lf = places-of-length h n c ∙ sym (P .begin)
-
-  pub placed-le : start ≤ n
-  placed-le = omega (arith, P .begin, start-of-le h n c)
-
-  l₂ : length (over w₀ (2 * n) S) ≡ length w₀
-  l₂ = over-length w₀ (2 * n) S (omega (arith, ls, P .fit, P .few, P .high))
-
-  pub placed-length : length w ≡ length w₀
-  placed-length = ap length (P .work) ∙ over-length (over w₀ (2 * n) S) (3 * n) F (omega (arith, l₂, lf, placed-le, P .fit)) ∙ l₂
-
-  module _ (l : c < k) where
-    next : set w (2 * n + c) start ≡ over w (2 * n + c) (start ∷ [])
-    next = set-over w (2 * n + c) start (omega (arith, placed-length, P .fit, P .few))
-
-    pub placed-numbers : (i : ℕ) → i < n → numberIn (set w (2 * n + c) start) i ≡ numberIn w₀ i
-    placed-numbers i m =
-        ap (λ (z : List ℕ). getD z i 0) (next ∙ ap (λ (z : List ℕ). over z (2 * n + c) (start ∷ [])) (P .work))
-        ∙ get-under (over (over w₀ (2 * n) S) (3 * n) F) (2 * n + c) i (start ∷ []) (omega arith) (omega (arith, ap length (P .work), placed-length, P .fit, P .few))
-        ∙ get-under (over w₀ (2 * n) S) (3 * n) i F (omega arith) (omega (arith, l₂, P .fit))
-        ∙ get-under w₀ (2 * n) i S (omega arith) (omega (arith, P .fit))
-
-    gathered : numbered (numberIn (set w (2 * n + c) start)) n c ≡ numbered h n c
-    gathered = numbered-same (numberIn (set w (2 * n + c) start)) h n placed-numbers c
-
-    onward : {m : ℕ} → m ≡ length (numbered (numberIn (set w (2 * n + c) start)) n c) → start + m ≡ startOf h n (c + 1)
-    onward e = omega (arith, e, ap length gathered, P .begin, start-of-next h n c)
-
-    pub placed-sum : {m : ℕ} → m ≡ length (numbered (numberIn (set w (2 * n + c) start)) n c) → start + m ≤ n
-    placed-sum e = omega (arith, onward e, start-of-le h n (c + 1))
-
-    pub placed-step : {m : ℕ} {v : List ℕ} → m ≡ length (numbered (numberIn (set w (2 * n + c) start)) n c)
-        → v ≡ over (set w (2 * n + c) start) (3 * n + start) (numbered (numberIn (set w (2 * n + c) start)) n c) → Placed n k w₀ v (start + m) (c + 1)
-    placed-step {m} {v} p q = record {
-      fit = P .fit;
-      few = P .few;
-      high = omega arith;
-      begin = onward p;
-      work = q
-          ∙ ap₂ (λ (z ys : List ℕ). over z (3 * n + start) ys) (next ∙ ap (λ (z : List ℕ). over z (2 * n + c) (start ∷ [])) (P .work)) gathered
-          ∙ over-grow w₀ (2 * n) (3 * n) (2 * n + c) (3 * n + start) S F (start ∷ []) (numbered h n c) (omega (arith, ls)) (omega (arith, lf)) (omega (arith, P .few))
-          (omega (arith, P .fit, P .begin, start-of-next h n c, start-of-le h n (c + 1)))
-          ∙ ap₂ (λ (us vs : List ℕ). over (over w₀ (2 * n) us) (3 * n) vs)
-          (ap (λ (s : ℕ). S ++ (s ∷ [])) (P .begin) ∙ sym (column-snoc (startOf h n) c)) (sym (places-of-next h n c));
-    }
-
-  pub placed-end : k ≤ c → w ≡ over (over w₀ (2 * n) (column (startOf h n) k)) (3 * n) (placesOf h n k)
-  placed-end l =
-      let e : c ≡ k = omega (arith, P .high) in
-      P .work ∙ ap (λ (d : ℕ). over (over w₀ (2 * n) (column (startOf h n) d)) (3 * n) (placesOf h n d)) e
-
 -- ---- first the one, then the other
-module _ {ps : List ℤ} {v : ValidParams} {n : ℕ} (r : Ready ps v n) (w₀ : List ℕ) (room : 5 * n ≤ length w₀) {k : ℕ} {w₁ : List ℕ}
+module _ {ps : List ℤ} {v : ValidParams} {n : ℕ} (r : Ready ps v n) (w₀ : List ℕ) (s : (16 * n ≤ length w₀) × Clear w₀ (10 * n) (3 * n)) {k : ℕ} {w₁ : List ℕ}
     (p : (k ≡ length (cells (geometryAt v n ps))) × (w₁ ≡ over (over w₀ 0 (column (cellNumber (geometryAt v n ps)) n)) n (cells (geometryAt v n ps)))) where
   abbrev g : Geometry
   g = geometryAt v n ps
@@ -222,12 +261,31 @@ module _ {ps : List ℤ} {v : ValidParams} {n : ℕ} (r : Ready ps v n) (w₀ : 
   ln : length (over w₀ 0 N) ≡ length w₀
   ln = over-length w₀ 0 N (omega (arith, length-numbers (cellNumber g) n))
 
-  l₃ : length w₁ ≡ length w₀
-  l₃ = ap length (p .1) ∙ over-length (over w₀ 0 N) n (cells g) (omega (arith, ln, cells-le g, e)) ∙ ln
+  l₆ : length w₁ ≡ length w₀
+  l₆ = ap length (p .1) ∙ over-length (over w₀ 0 N) n (cells g) (omega (arith, ln, cells-le g, e)) ∙ ln
 
   -- what `arrange` requires
-  pub numbered-fits : (n ≤ maxFrames) × (k ≤ n) × (5 * n ≤ length w₁)
-  numbered-fits = (r .few, omega (arith, p .0, cells-le g, e), omega (arith, l₃))
+  pub numbered-fits : ((n ≤ maxFrames) × (k ≤ n) × (13 * n ≤ length w₁)) × (Below k (part w₁ 0 n) × Clear w₁ (12 * n) k)
+  numbered-fits = ((r .few, lk, omega (arith, l₆)), (few-cells, clear))
+    where
+      lk : k ≤ n
+      lk = omega (arith, p .0, cells-le g, e)
+
+      own : part w₁ 0 n ≡ N
+      own =
+          ap (λ (y : List ℕ). part y 0 n) (p .1)
+          ∙ part-under (over w₀ 0 N) 0 n n (cells g) (omega arith) (omega (arith, ln))
+          ∙ part-same w₀ 0 n N (omega arith) (length-numbers (cellNumber g) n)
+
+      few-cells : Below k (part w₁ 0 n)
+      few-cells x i =
+          let y = in-map (cellNumber g) x (numbers n) (subst (In x) own i) in
+          omega (arith, y .2, number-below g L (y .0) (omega (arith, in-numbers n (y .0) (y .1), e)), p .0)
+
+      clear : Clear w₁ (12 * n) k
+      clear = subst (λ (y : List ℕ). Clear y (12 * n) k) (sym (p .1))
+          (clear-after (over w₀ 0 N) (12 * n) k n (cells g) (omega (arith, ln)) (omega (arith, p .0, lk))
+          (clear-after w₀ (12 * n) k 0 N (omega arith) (omega (arith, length-numbers (cellNumber g) n)) (clear-within w₀ (10 * n) (3 * n) (12 * n) k (s .1) (omega arith) (omega (arith, lk)))))
 
   told : (i : ℕ) → i < n → numberIn w₁ i ≡ cellNumber g i
   told i h =

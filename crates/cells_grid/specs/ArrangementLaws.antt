@@ -12,14 +12,15 @@ use lib.Seq.{take-suc, take-length, split-at, drop-at, take-at, ext-getD}
 use Rattle.lists.specs.Lists.{numbers, keep, lose, howMany, total, concat, In, Below}
 use Rattle.lists.specs.Words.{over, part, column}
 use Rattle.lists.specs.ListLaws.{T-true, T-false, T-or-not, both-ways, bit-eqb, lose-in, keep-same, keep-more, at-in, in-map, map-same, in-some, in-concat, in-numbers, at-numbers, length-numbers, length-from}
-use Rattle.lists.specs.CountLaws.{keep-none, keep-all, keep-map, parts-length, howMany-cons, total-append, total-keep, total-map, length-concat, concat-append}
+use Rattle.lists.specs.CountLaws.{keep-none, keep-all, keep-map, parts-length, howMany-cons, total-append, length-concat, concat-append}
 use Rattle.lists.specs.OrderLaws.{at-rank, kept-le}
 use Rattle.lists.specs.WordLaws.{over-length}
 use Rattle.lists.specs.PartLaws.{part-part, part-under, part-same, part-at, part-below, holds-at, holds-at-0}
+use Rattle.lists.specs.Within.{Within, within-self, within-over}
 use Rattle.counting_tree.specs.Geometry.{Geometry}
-use Rattle.cells_grid.specs.Cells.{sameCell, members, first, isCell, cells, cellNumber, listed, list, neighbour, core}
+use Rattle.cells_grid.specs.Cells.{sameCell, members, first, isCell, cells, cellNumber, listed, list, core}
 use Rattle.cells_grid.specs.Lawful.{Lawful}
-use Rattle.cells_grid.specs.CellLaws.{in-member, by-cells, members-same, first-in, cell-first, cells-ascending, first-cell, number-cell, number-same}
+use Rattle.cells_grid.specs.CellLaws.{in-member, members-same, first-in, cell-first, cells-ascending, first-cell, number-cell, number-same}
 use Rattle.cells_grid.specs.Arrangement.{cellAt, arranged, startAt, coreBit, Arranged, Cored}
 use Rattle.cells_grid.specs.Places.{numbered, startOf, placesOf, endIn, populated}
 
@@ -150,23 +151,9 @@ module _ (g : Geometry) (L : Lawful g) where
       let z = lose-in f (first g i) (cells g) (first-cell g L i h) (rw (T-false (ltb (first g i) (first g i)) (λ t. omega (arith, ltb→lt (first g i) (first g i) t))) tt) in
       omega (arith, parts-length f (cells g), in-some (first g i) (lose f (cells g)) z)
 
-  -- a frame's cell, by its number: its list and its frames
-  pub listed-number : (i j : ℕ) → i < g .frames → listed g (cellAt g (cellNumber g i)) j ≡ listed g i j
-  unfolding listed
-  listed-number i j h = ap (λ (f : ℕ). g .near f (first g j)) (ap (first g) (number-cell g L i 0 h) ∙ cell-first g (first g i) (first-cell g L i h) .1)
-
+  -- a frame's cell, by its number: its frames
   pub members-number : (i : ℕ) → i < g .frames → members g (cellAt g (cellNumber g i)) ≡ members g i
   members-number i h = ap (members g) (number-cell g L i 0 h) ∙ sym (members-same g L i (first g i) (first-in g L i h .1))
-
-  -- the frames within t of frame i in listed cells, cell by cell
-  pub neighbours-by-number : (i : ℕ) → howMany (neighbour g i) (numbers (g .frames))
-      ≡ total (λ c. cond (listed g i (cellAt g c)) (howMany (g .within i) (members g (cellAt g c))) 0) (numbers (length (cells g)))
-  unfolding neighbour
-  neighbours-by-number i =
-      by-cells g L i (g .within i)
-      ∙ ap (total (λ c. howMany (g .within i) (members g c))) (list-by-number g i)
-      ∙ total-map (λ c. howMany (g .within i) (members g c)) (cellAt g) (keep (λ c. listed g i (cellAt g c)) (numbers (length (cells g))))
-      ∙ total-keep (λ c. howMany (g .within i) (members g (cellAt g c))) (λ c. listed g i (cellAt g c)) (numbers (length (cells g)))
 
   -- the frames of the cell with number c are those with the cell number c
   pub members-by-number : (c : ℕ) → c < length (cells g) → members g (cellAt g c) ≡ numbered (cellNumber g) (g .frames) c
@@ -327,3 +314,16 @@ populated-arranged g L w h =
           ∙ part-same w₂ (2 * n) k S (omega arith) ls;
       places = part-same w₃ (3 * n) n (arranged g) (omega arith) (arranged-length g L);
     }
+
+-- and nothing else changes
+pub populated-within : (g : Geometry) → Lawful g → (w : List ℕ) → 4 * g .frames ≤ length w → Within (4 * g .frames) w (populated g w)
+unfolding populated
+populated-within g L w h =
+    let n = g .frames in
+    let k = length (cells g) in
+    let few : k ≤ n = cells-le g in
+    within-over (within-over (within-over (within-over (within-self (4 * n) w)
+    0 (column (cellNumber g) n) (omega (arith, length-numbers (cellNumber g) n)) h)
+    n (cells g) (omega arith) h)
+    (2 * n) (column (startAt g) k) (omega (arith, length-numbers (startAt g) k)) h)
+    (3 * n) (arranged g) (omega (arith, arranged-length g L)) h

@@ -3,5 +3,13 @@ pub mod Lawful
 pub mod Arrangement
 pub mod CellLaws
 pub mod Places
+pub mod Hashing
+pub mod HashingLaws
 pub mod ArrangementLaws
 pub mod Ready
+pub mod Blocks
+pub mod BlockLaws
+pub mod HashLaws
+pub mod Crowding
+pub mod Listing
+pub mod ListingLaws

@@ -4,18 +4,23 @@
 use hyperparams::ValidParams;
 use lists::Word;
 ghost use mathlib.Core.Path.{_≡_};
-ghost use mathlib.Core.Bool.{cond};
-ghost use mathlib.Core.List.{[], _∷_};
 ghost use Prim.Native.Nat.{_+_, _*_, _<_, _≤_};
-ghost use lib.Dec.{leb, eqb};
+ghost use lib.Dec.{eqb};
 ghost use lib.ListN.{length, getD};
 ghost use Rattle.lists.specs.Lists.{numbers, howMany};
-ghost use Rattle.lists.specs.Words.{over, column};
-ghost use Rattle.hyperparams.specs.Params.{maxFrames};
+ghost use Rattle.lists.specs.Words.{over, column, Clear};
+ghost use Rattle.counting_tree.specs.Domain.{Counts};
 ghost use Rattle.counting_tree.specs.Ready.{geometryAt, Ready};
-ghost use Rattle.cells_grid.specs.Cells.{members, isCell, cells, cellNumber, listed, neighbour};
+ghost use Rattle.cells_grid.specs.Cells.{members, cells, listed};
 ghost use Rattle.cells_grid.specs.Arrangement.{cellAt, coreBit, Arranged};
-ghost use Rattle.cells_grid.specs.Places.{Begun, numbered, startOf, placesOf, numberIn, endIn, populated};
+ghost use Rattle.cells_grid.specs.Blocks.{Hashed};
+ghost use Rattle.cells_grid.specs.Crowding.{every};
+ghost use Rattle.cells_grid.specs.Places.{endIn, populated};
+
+pub mod blocks;
+pub mod crowding;
+mod inserting;
+pub mod listing;
 
 // The regions: from n on the first frame of each cell, from 2n on where its frames begin among the places,
 // from 3n on the places, which hold the frames by cell, from 4n on which frames are core.
@@ -25,109 +30,14 @@ pub const PLACES: usize = 3;
 
 pub const CORES: usize = 4;
 
-// The number of frame i's cell, where k cells begin before frame i: k itself if frame i begins a cell.
-fn find_cell(points: &[i16], v: ValidParams, n: usize, work: &[Word], k: usize, i: usize) -> usize
-    requires { ⌜ Ready (now points) v n × (i < n) × (n + n ≤ length (now work)) ⌝ }
-    requires { ⌜ Begun (geometryAt v n (now points)) n i k (now work) ⌝ }
-    ensures { λ r. ⌜ r ≡ cellNumber (geometryAt v n (now (points .entry))) i ⌝ }
-{
-    let mut c = 0;
-    while c < k {
-        let f = lists::word(work, n + c);
-        if counting_tree::points::same_box(points, v, n, 0, i, f) {
-            return c;
-        }
-        c += 1;
-    }
-    k
-}
-
-// Writes the number of frame i's cell and, if it begins one, that cell's first frame. Returns the number of cells so far.
-fn insert_point(
-    points: &[i16],
-    v: ValidParams,
-    n: usize,
-    work: &mut [Word],
-    k: usize,
-    i: usize,
-) -> usize
-    requires { ⌜ Ready (now points) v n × (i < n) × (n + n ≤ length (now work)) ⌝ }
-    requires { ⌜ Begun (geometryAt v n (now points)) n i k (now work) ⌝ }
-    ensures { λ r. ⌜ r ≡ howMany (isCell (geometryAt v n (now (points .entry)))) (numbers (i + 1)) ⌝ }
-    ensures { λ _. ⌜ now (work .exit) ≡ over (over (now (work .entry)) i (cellNumber (geometryAt v n (now (points .entry))) i ∷ []))
-        (n + k) (cond (isCell (geometryAt v n (now (points .entry))) i) (i ∷ []) []) ⌝ }
-{
-    let c = find_cell(points, v, n, work, k, i);
-    work[i] = c as Word;
-    if c == k {
-        work[n + k] = i as Word;
-        return k + 1;
-    }
-    k
-}
-
-// Writes the number of each frame's cell and the first frame of each cell. Returns the number of cells.
-fn insert_points(points: &[i16], v: ValidParams, n: usize, work: &mut [Word]) -> usize
-    requires { ⌜ Ready (now points) v n × (n + n ≤ length (now work)) ⌝ }
-    ensures { λ r. ⌜ r ≡ length (cells (geometryAt v n (now (points .entry)))) ⌝ }
-    ensures { λ _. ⌜ now (work .exit) ≡ over (over (now (work .entry)) 0 (column (cellNumber (geometryAt v n (now (points .entry)))) n)) n (cells (geometryAt v n (now (points .entry)))) ⌝ }
-{
-    let mut k = 0;
-    let mut i = 0;
-    while i < n {
-        let more = insert_point(points, v, n, work, k, i);
-        k = more;
-        i += 1;
-    }
-    k
-}
-
-// Writes the frames of the cell with number c from `at` on, ascending. Returns how many there are.
-fn gather_cell(work: &mut [Word], n: usize, c: usize, at: usize) -> usize
-    requires { ⌜ (n ≤ maxFrames) × (n ≤ at) × (at + n ≤ length (now work)) ⌝ }
-    ensures { λ r. ⌜ r ≡ length (numbered (numberIn (now (work .entry))) n c) ⌝ }
-    ensures { λ _. ⌜ now (work .exit) ≡ over (now (work .entry)) at (numbered (numberIn (now (work .entry))) n c) ⌝ }
-{
-    let mut m = 0;
-    let mut i = 0;
-    while i < n {
-        let next = i + 1;
-        if lists::word(work, i) == c {
-            work[at + m] = i as Word;
-            m += 1;
-            i = next;
-        } else {
-            i = next;
-        }
-    }
-    m
-}
-
-// Arranges the frames by cell number, and writes where the frames of each of k cells begin.
-fn arrange(work: &mut [Word], n: usize, k: usize)
-    requires { ⌜ (n ≤ maxFrames) × (k ≤ n) × (5 * n ≤ length (now work)) ⌝ }
-    ensures { λ _. ⌜ now (work .exit) ≡ over (over (now (work .entry)) (2 * n) (column (startOf (numberIn (now (work .entry))) n) k))
-        (3 * n) (placesOf (numberIn (now (work .entry))) n k) ⌝ }
-{
-    let mut start = 0;
-    let mut c = 0;
-    while c < k {
-        let next = c + 1;
-        work[STARTS * n + c] = start as Word;
-        let m = gather_cell(work, n, c, PLACES * n + start);
-        start += m;
-        c = next;
-    }
-}
-
 // Numbers the cells and arranges the frames by cell. Returns the number of cells.
 pub fn populate(points: &[i16], v: ValidParams, n: usize, work: &mut [Word]) -> usize
-    requires { ⌜ Ready (now points) v n × (5 * n ≤ length (now work)) ⌝ }
+    requires { ⌜ Ready (now points) v n × (16 * n ≤ length (now work)) × Clear (now work) (10 * n) (3 * n) ⌝ }
     ensures { λ r. ⌜ r ≡ length (cells (geometryAt v n (now (points .entry)))) ⌝ }
     ensures { λ _. ⌜ now (work .exit) ≡ populated (geometryAt v n (now (points .entry))) (now (work .entry)) ⌝ }
 {
-    let k = insert_points(points, v, n, work);
-    arrange(work, n, k);
+    let k = inserting::insert_points(points, v, n, work);
+    inserting::arrange(work, n, k);
     k
 }
 
@@ -194,33 +104,10 @@ pub fn points_in_range(
     m
 }
 
-// Whether the cells on the list of frame i's cell hold `min_points` frames within the tolerance of frame i.
-fn crowded(points: &[i16], v: ValidParams, n: usize, work: &[Word], k: usize, i: usize) -> bool
-    requires { ⌜ Ready (now points) v n × Arranged (geometryAt v n (now points)) k (now work) × (i < n) ⌝ }
-    ensures { λ r. ⌜ r ≡ leb (geometryAt v n (now (points .entry)) .least) (howMany (neighbour (geometryAt v n (now (points .entry))) i) (numbers n)) ⌝ }
-{
-    let own = lists::word(work, i);
-    let mut m = 0;
-    let mut c = 0;
-    while c < k {
-        let next = c + 1;
-        if is_listed(points, v, n, work, own, c) {
-            let more = m + points_in_range(points, v, n, work, k, i, c);
-            if more >= v.min_points {
-                return true;
-            }
-            m = more;
-            c = next;
-        } else {
-            c = next;
-        }
-    }
-    false
-}
-
 // 1 if frame i is core, else 0.
 fn core_frame(points: &[i16], v: ValidParams, n: usize, work: &[Word], k: usize, i: usize) -> Word
     requires { ⌜ Ready (now points) v n × Arranged (geometryAt v n (now points)) k (now work) × (i < n) ⌝ }
+    requires { ⌜ Counts (now points) × Hashed (v .t) v n (now points) every (now work) × (15 * n ≤ length (now work)) ⌝ }
     ensures { λ r. ⌜ r ≡ coreBit (geometryAt v n (now (points .entry))) i ⌝ }
 {
     let c = lists::word(work, i);
@@ -228,7 +115,7 @@ fn core_frame(points: &[i16], v: ValidParams, n: usize, work: &[Word], k: usize,
     if size >= v.min_points {
         return 1;
     }
-    if crowded(points, v, n, work, k, i) {
+    if crowding::crowded(points, v, n, work, i) {
         return 1;
     }
     0
@@ -236,15 +123,19 @@ fn core_frame(points: &[i16], v: ValidParams, n: usize, work: &[Word], k: usize,
 
 // Writes which frames are core.
 pub fn label_points(points: &[i16], v: ValidParams, n: usize, k: usize, work: &mut [Word])
-    requires { ⌜ Ready (now points) v n × Arranged (geometryAt v n (now points)) k (now work) × (5 * n ≤ length (now work)) ⌝ }
+    requires { ⌜ Ready (now points) v n × Arranged (geometryAt v n (now points)) k (now work) × (16 * n ≤ length (now work)) × Clear (now work) (10 * n) (6 * n) ⌝ }
     ensures { λ _. ⌜ now (work .exit) ≡ over (now (work .entry)) (4 * n) (column (coreBit (geometryAt v n (now (points .entry)))) n) ⌝ }
 {
+    // Every count is then known to be a signed 16-bit number, which `crowded` rests on.
+    let read = counting_tree::points::read_counts(points);
+    crowding::hash_frames(points, v, n, work);
     let mut i = 0;
     while i < n {
         let b = core_frame(points, v, n, work, k, i);
         work[CORES * n + i] = b;
         i += 1;
     }
+    lists::clear_words(work, blocks::HEADS * n, 5 * n);
 }
 
 // Whether the words say that frame i is core.

@@ -3,14 +3,15 @@ use mathlib.Core.Path.{_≡_, refl, sym, ap, _∙_, subst}
 use mathlib.Core.List.{List}
 use Prim.Native.Nat.{ℕ, _+_, _*_, _<_, _≤_}
 use native.Mathlib.Omega.{arith}
+use lib.IntN.{ℤ}
 use lib.ListN.{length, set, length-set}
 use Rattle.lists.specs.Words.{over, part, column}
 use Rattle.lists.specs.ListLaws.{length-numbers}
 use Rattle.lists.specs.PartLaws.{set-under}
 use Rattle.lists.specs.LoopLaws.{Fill, fill-start, fill-length, fill-step, fill-under, fill-end}
-use Rattle.counting_tree.specs.Geometry.{Geometry}
-use Rattle.core_cells.specs.Forest.{Grown}
-use Rattle.core_cells.specs.ForestLaws.{grown-over}
+use Rattle.hyperparams.specs.declared.ValidParams.{ValidParams}
+use Rattle.counting_tree.specs.Ready.{Ready}
+use Rattle.clustering.proofs.Searching.{CanSearch, search-over}
 
 pub record Columns (f h : ℕ → ℕ) (w : List ℕ) (a b n : ℕ) (v : List ℕ) (i : ℕ) : Type 0 where
   pub apart : a + n ≤ b
@@ -25,6 +26,9 @@ columns-start {w} s l = record { apart = s; low = w; lower = fill-start (omega a
 module _ {f h : ℕ → ℕ} {w : List ℕ} {a b n : ℕ} {v : List ℕ} {i : ℕ} (c : Columns f h w a b n v i) where
   pub columns-length : length v ≡ length w
   columns-length = fill-length (c .upper) ∙ fill-length (c .lower)
+
+  pub columns-same : {u : List ℕ} → u ≡ v → Columns f h w a b n u i
+  columns-same e = subst (λ (z : List ℕ). Columns f h w a b n z i) (sym e) c
 
   pub columns-step : i < n → {x y : ℕ} → x ≡ f i → y ≡ h i → Columns f h w a b n (set (set v (a + i) x) (b + i) y) (i + 1)
   columns-step l {x} {y} e q =
@@ -43,10 +47,13 @@ module _ {f h : ℕ → ℕ} {w : List ℕ} {a b n : ℕ} {v : List ℕ} {i : �
   pub columns-end : n ≤ i → v ≡ over (over w a (column f n)) b (column h n)
   columns-end l = fill-end (c .upper) l ∙ ap (λ (z : List ℕ). over z b (column h n)) (fill-end (c .lower) l)
 
-  -- between the trees' words and the nodes they change neither
-  pub columns-grown : {g : Geometry} {k m : ℕ} → g .frames ≡ m → 6 * m ≤ a → b + n ≤ 16 * m → Grown g k w → Grown g k v
-  columns-grown {g} {k} {m} e l q gr =
-      subst (Grown g k) (sym (c .upper .work))
-      (grown-over (subst (Grown g k) (sym (c .lower .work))
-      (grown-over gr e a (column f i) l (omega (arith, c .apart, c .lower .high, length-numbers f i)) (omega (arith, c .lower .fit))))
-      e b (column h i) (omega (arith, c .apart)) (omega (arith, c .upper .high, length-numbers h i)) (omega (arith, c .upper .fit)))
+  -- what words laid from a up to b + n keep is kept
+  pub columns-keep : (P : List ℕ → Type 0) → ((u : List ℕ) (at : ℕ) (ws : List ℕ) → a ≤ at → at + length ws ≤ b + n → P u → P (over u at ws)) → P w → P v
+  columns-keep P k p =
+      let q = k w a (column f i) (omega arith) (omega (arith, c .apart, c .lower .high, length-numbers f i)) p in
+      subst P (sym (c .upper .work))
+      (k (c .low) b (column h i) (omega (arith, c .apart)) (omega (arith, c .upper .high, length-numbers h i)) (subst P (sym (c .lower .work)) q))
+
+-- columns at 8n and 9n leave what the search for listed cells asks
+pub columns-search : {f h : ℕ → ℕ} {ps : List ℤ} {v : ValidParams} {n k : ℕ} {w u : List ℕ} {i : ℕ} → Ready ps v n → Columns f h w (8 * n) (9 * n) n u i → CanSearch ps v n k w → CanSearch ps v n k u
+columns-search {ps} {v} {n} {k} r c s = columns-keep c (CanSearch ps v n k) (λ x at ws a b p. search-over r at ws (omega arith) (omega arith) p) s

@@ -1,50 +1,38 @@
 -- What the words that hold a run's cells and trees say of them.
-use mathlib.Core.Path.{_≡_, sym, ap, ap₂, _∙_, subst}
-use mathlib.Core.Bool.{Bool, true, false, not, _&&_, Bool·not-not}
+use mathlib.Core.Path.{_≡_, sym, ap, _∙_, subst}
+use mathlib.Core.Logic.{inl, inr}
+use mathlib.Core.Bool.{Bool, true, false, not, Bool·not-not}
 use mathlib.Core.List.{List}
 use Prim.Native.Nat.{ℕ, _+_, _*_, _<_, _≤_}
 use native.Mathlib.Omega.{arith}
-use lib.Dec.{eqb}
+use lib.Dec.{T, T-not, eqb}
 use lib.IntN.{ℤ}
 use lib.ListN.{length, drop, getD, length-take, length-drop}
 use Rattle.lists.specs.Lists.{nonzero}
 use Rattle.lists.specs.Words.{part, column}
-use Rattle.lists.specs.ListLaws.{nonzero-eqb, length-numbers}
+use Rattle.lists.specs.ListLaws.{T-false, T-or-not, length-numbers}
 use Rattle.hyperparams.specs.declared.ValidParams.{ValidParams}
 use Rattle.counting_tree.specs.Geometry.{Geometry}
 use Rattle.counting_tree.specs.Ready.{geometryAt, Ready, at-frames}
-use Rattle.cells_grid.specs.Cells.{cells, cellNumber, core, listed, coreCell, node, count}
+use Rattle.cells_grid.specs.Cells.{cells, cellNumber, core, listed, coreCell, count}
 use Rattle.cells_grid.specs.Lawful.{Lawful}
 use Rattle.cells_grid.specs.Ready.{ready-lawful}
 use Rattle.cells_grid.specs.Arrangement.{cellAt, coreBit, Arranged}
 use Rattle.cells_grid.specs.ArrangementLaws.{words-count, number-word, number-below, core-word}
-use Rattle.tree_structure.specs.declared.Counted.{Counted}
-use Rattle.tree_structure.specs.Encode.{toldOf}
 use Rattle.core_cells.specs.Forest.{Grown}
-use Rattle.core_cells.specs.ForestLaws.{word-room, has-tree}
+use Rattle.core_cells.specs.ForestLaws.{word-room, has-tree, no-tree-node}
 use Rattle.clustering.specs.Uniting.{pairAt}
-use Rattle.clustering.specs.Numbering.{bordersAt}
 
 pub not-turn : (a b : Bool) → not a ≡ b → a ≡ not b
 not-turn a b e = sym (Bool·not-not a) ∙ ap not e
 
--- the count that a tree is asked for
-pub told : (g : Geometry) (q c : ℕ) (t : Counted) → t ≡ toldOf (node g q (cellAt g c)) → t .count ≡ count g q (cellAt g c)
+-- a cell with a non-zero count has a tree
+pub counted-core : (g : Geometry) (i c : ℕ) → T (nonzero (count g i (cellAt g c))) → T (coreCell g (cellAt g c))
 unfolding count
-told g q c t e = ap (λ (x : Counted). x .count) e
-
--- a frame in the tree of a cell that is listed, or not
-module _ (g : Geometry) (own i c : ℕ) {a : Bool} (e : a ≡ listed g (cellAt g own) (cellAt g c)) where
-  pub border-asked : a ≡ true → (t : Counted) → t ≡ toldOf (node g i (cellAt g c)) → not (eqb (t .count) 0) ≡ bordersAt g own i c
-  unfolding bordersAt
-  border-asked s t f = nonzero-eqb (t .count) ∙ ap₂ (λ (x : Bool) (m : ℕ). x && nonzero m) (sym s ∙ e) (told g i c t f)
-
-  pub border-not : a ≡ false → false ≡ bordersAt g own i c
-  unfolding bordersAt
-  border-not s = ap (λ (x : Bool). x && nonzero (count g i (cellAt g c))) (sym s ∙ e)
-
-pub border-own : (g : Geometry) (i c : ℕ) {own : ℕ} {b : Bool} → own ≡ cellNumber g i → b ≡ bordersAt g own i c → bordersAt g (cellNumber g i) i c ≡ b
-border-own g i c e f = ap (λ (x : ℕ). bordersAt g x i c) (sym e) ∙ sym f
+counted-core g i c t = elim (T-or-not (coreCell g (cellAt g c))) [
+  | inl h ↦ h
+  | inr f ↦ absurd (subst (λ (l : List ℕ). T (nonzero (length l))) (no-tree-node g c (T-false (coreCell g (cellAt g c)) (T-not (coreCell g (cellAt g c)) f)) i) t)
+]
 
 module _ {ps : List ℤ} {v : ValidParams} {n : ℕ} (r : Ready ps v n) {k : ℕ} {w : List ℕ} (gr : Grown (geometryAt v n ps) k w) where
   abbrev g : Geometry

@@ -1,16 +1,16 @@
 -- The label and the kind of a frame, by the words of the clusters and by the first cell that the frame borders on.
 use mathlib.Core.Path.{_≡_, refl, sym, ap, _∙_, subst}
-use mathlib.Core.Logic.{inl, inr}
+use mathlib.Core.Logic.{inl}
 use mathlib.Core.Bool.{Bool, true, false, not, _&&_}
 use mathlib.Core.List.{List, [], _∷_, map}
 use Prim.Native.Nat.{ℕ, _+_, _*_, _<_, _≤_}
 use native.Mathlib.Omega.{arith}
-use lib.Dec.{T, T-not, eqb}
+use lib.Dec.{T, eqb}
 use lib.IntN.{ℤ}
 use lib.ListN.{length, getD}
 use Rattle.lists.specs.Lists.{numbers, keep, headOr, In, nonzero}
 use Rattle.lists.specs.Words.{part, column}
-use Rattle.lists.specs.ListLaws.{true-T, T-false, T-or-not, cond-true, and-right, in-keep, in-numbers, keep-same}
+use Rattle.lists.specs.ListLaws.{true-T, cond-true, and-right, in-keep, in-numbers, keep-same}
 use Rattle.lists.specs.CountLaws.{keep-keep, keep-map}
 use Rattle.lists.specs.PartLaws.{holds-at}
 use Rattle.hyperparams.specs.declared.ValidParams.{ValidParams}
@@ -18,25 +18,16 @@ use Rattle.counting_tree.specs.Geometry.{Geometry}
 use Rattle.counting_tree.specs.Ready.{geometryAt, Ready}
 use Rattle.cells_grid.specs.Cells.{first, cells, cellNumber, listed, core, coreCell, count}
 use Rattle.cells_grid.specs.Lawful.{Lawful}
-use Rattle.cells_grid.specs.CellLaws.{first-same, first-in, number-cell, core-first, in-core-cell}
+use Rattle.cells_grid.specs.CellLaws.{first-same, first-in, number-cell, core-first, in-core-cell, core-cell-in}
 use Rattle.cells_grid.specs.Arrangement.{cellAt}
-use Rattle.cells_grid.specs.ArrangementLaws.{list-by-number}
+use Rattle.cells_grid.specs.ArrangementLaws.{cell-at, list-by-number}
 use Rattle.core_cells.specs.Forest.{Grown}
-use Rattle.core_cells.specs.ForestLaws.{no-tree-node}
 use Rattle.clustering.specs.Clusters.{place, clusters, touched, labelBy, kindOf}
-use Rattle.clustering.specs.ClusterLaws.{core-label, border-label, noise-label}
+use Rattle.clustering.specs.ClusterLaws.{number-low, core-label, border-label, noise-label}
 use Rattle.clustering.specs.Numbering.{clusterWord, bordersAt}
-use Rattle.clustering.proofs.Held.{lawful, frames, cell-count, own-held, own-below, core-held}
+use Rattle.clustering.proofs.Held.{counted-core, lawful, frames, cell-count, own-held, own-below, core-held}
 
 module _ (g : Geometry) where
-  -- a cell with a non-zero count has a tree
-  counted-core : (i c : ℕ) → T (nonzero (count g i (cellAt g c))) → T (coreCell g (cellAt g c))
-  unfolding count
-  counted-core i c t = elim (T-or-not (coreCell g (cellAt g c))) [
-    | inl h ↦ h
-    | inr f ↦ absurd (subst (λ (l : List ℕ). T (nonzero (length l))) (no-tree-node g c (T-false (coreCell g (cellAt g c)) (T-not (coreCell g (cellAt g c)) f)) i) t)
-  ]
-
   pub cluster-of : (c : ℕ) → T (coreCell g (cellAt g c)) → clusterWord g c ≡ place (cellAt g c) (clusters g)
   unfolding clusterWord
   cluster-of c t = cond-true (coreCell g (cellAt g c)) (place (cellAt g c) (clusters g)) 0 t
@@ -68,7 +59,17 @@ module _ (g : Geometry) where
     unfolding bordersAt
     in-bordering c j =
         let z = in-keep (bordersAt g (cellNumber g i) i) c (numbers (length (cells g))) j in
-        (in-numbers (length (cells g)) c (z .0), counted-core i c (and-right (listed g (cellAt g (cellNumber g i)) (cellAt g c)) (nonzero (count g i (cellAt g c))) (z .1)))
+        (in-numbers (length (cells g)) c (z .0), counted-core g i c (and-right (listed g (cellAt g (cellNumber g i)) (cellAt g c)) (nonzero (count g i (cellAt g c))) (z .1)))
+
+    -- without a cluster there is no core cell
+    pub none-touched : length (clusters g) ≡ 0 → touched g i ≡ []
+    none-touched z = go bordering touched-by-number in-bordering
+      where
+        go : (cs : List ℕ) → touched g i ≡ map (cellAt g) cs → ((c : ℕ) → In c cs → (c < length (cells g)) × T (coreCell g (cellAt g c))) → touched g i ≡ []
+        go [] t m = t
+        go (c ∷ cs) t m =
+            let h = m c (inl refl) in
+            absurd (omega (arith, number-low g (cellAt g c) (core-cell-in g (cellAt g c) (cell-at g c (h .0)) (h .1))))
 
     module _ (n : T (not (core g i))) (k : ℕ) (e : k ≡ length (cells g)) {b : ℕ} (eb : b ≡ headOr k bordering) where
       abbrev cluster : ℕ → ℕ
@@ -121,17 +122,23 @@ module _ {ps : List ℤ} {v : ValidParams} {n : ℕ} (r : Ready ps v n) {k : ℕ
         let z = core-told g (lawful r gr) i frame (true-T (is-core ∙ t)) in
         (holds-at w (7 * n) k (clusterWord g) own ew (own-low e) ∙ ap (clusterWord g) (e ∙ own-held r gr i h) ∙ z .0, z .1)
 
-    module _ (f : a ≡ false) {b : ℕ} (eb : b ≡ headOr k (keep (bordersAt g (cellNumber g i) i) (numbers k))) where
+    module _ (f : a ≡ false) where
       other : T (not (core g i))
       other = rw (is-core ∙ f) tt
 
-      first-border : b ≡ headOr k (keep (bordersAt g (cellNumber g i) i) (numbers (length (cells g))))
-      first-border = eb ∙ ap (λ (m : ℕ). headOr k (keep (bordersAt g (cellNumber g i) i) (numbers m))) (cell-count r gr)
+      pub label-none : {m : ℕ} → m ≡ length (clusters g) → m ≡ 0 → Told 65535 0
+      label-none e q =
+          let z = noise-label g (λ c. place c (clusters g)) i other (none-touched g (lawful r gr) i frame (omega arith)) in
+          (sym (z .0), sym (z .1))
 
-      pub label-border : b ≤ k → (b ≡ k → ⊥) → Told (getD w (7 * n + b) 0) 1
-      label-border l q =
-          let z = border-told g (lawful r gr) i frame other k (cell-count r gr) first-border q in
-          (holds-at w (7 * n) k (clusterWord g) b ew (omega (arith, q)) ∙ z .0, z .1)
+      module _ {b : ℕ} (eb : b ≡ headOr k (keep (bordersAt g (cellNumber g i) i) (numbers k))) where
+        first-border : b ≡ headOr k (keep (bordersAt g (cellNumber g i) i) (numbers (length (cells g))))
+        first-border = eb ∙ ap (λ (m : ℕ). headOr k (keep (bordersAt g (cellNumber g i) i) (numbers m))) (cell-count r gr)
 
-      pub label-noise : b ≡ k → Told 65535 0
-      label-noise q = noise-told g (lawful r gr) i frame other k (cell-count r gr) first-border q
+        pub label-border : b ≤ k → (b ≡ k → ⊥) → {u : List ℕ} → u ≡ w → Told (getD u (7 * n + b) 0) 1
+        label-border l q eu =
+            let z = border-told g (lawful r gr) i frame other k (cell-count r gr) first-border q in
+            (ap (λ (x : List ℕ). getD x (7 * n + b) 0) eu ∙ holds-at w (7 * n) k (clusterWord g) b ew (omega (arith, q)) ∙ z .0, z .1)
+
+        pub label-noise : b ≡ k → Told 65535 0
+        label-noise q = noise-told g (lawful r gr) i frame other k (cell-count r gr) first-border q

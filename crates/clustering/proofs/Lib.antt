@@ -2,10 +2,14 @@ pub mod Held
 pub mod Touching
 pub mod Lent
 pub mod Trying
+pub mod Meeting
+pub mod ByLists
 pub mod Pairs
 pub mod Flat
 pub mod Phases
 pub mod Numbered
+pub mod Searching
+pub mod Bordering
 pub mod Labelled
 pub mod Columns
 pub mod Whole

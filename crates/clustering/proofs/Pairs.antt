@@ -1,6 +1,5 @@
 -- The pairs that are left at the cells c and d, and the run that goes on with them.
 use mathlib.Core.Path.{_≡_, refl, sym, ap, ap₂, _∙_, subst}
-use mathlib.Core.Logic.{inl, inr}
 use mathlib.Core.Bool.{Bool, true, false, cond}
 use mathlib.Core.List.{List, [], _∷_, _++_, map, append-assoc}
 use Prim.Native.Nat.{ℕ, suc, _+_, _*_, _<_, _≤_}
@@ -8,7 +7,7 @@ use native.Mathlib.Omega.{arith}
 use lib.Dec.{ltb}
 use lib.IntN.{ℤ}
 use lib.ListN.{length}
-use Rattle.lists.specs.Lists.{numbers, keep, concat, In, nonzero}
+use Rattle.lists.specs.Lists.{numbers, concat, nonzero}
 use Rattle.lists.specs.Words.{over, part, rest}
 use Rattle.lists.specs.ListLaws.{true-T}
 use Rattle.lists.specs.WordLaws.{over-self, over-again, over-length}
@@ -23,9 +22,10 @@ use Rattle.core_cells.specs.ForestLaws.{grown-over}
 use Rattle.partitions.specs.Leaders.{Falling, root}
 use Rattle.partitions.specs.LeaderLaws.{Stands, own-stands}
 use Rattle.partitions.specs.Trials.{Holding, Outcome, run, byLeaders, byLowest}
-use Rattle.partitions.specs.TrialLaws.{Within, Alike, alike}
+use Rattle.partitions.specs.TrialLaws.{Alike, alike}
 use Rattle.clustering.specs.declared.uniting.Progress.{Progress}
 use Rattle.clustering.specs.Uniting.{pairAt, onePair, pairsWith, pairsOf, touchAt, stopped, progressOf}
+use Rattle.clustering.specs.UnitingLaws.{with-more, one-within}
 use Rattle.clustering.proofs.Held.{frames, few-cells, cell-count}
 
 -- ---- the pairs from c and d on
@@ -61,21 +61,12 @@ module _ (g : Geometry) (k : ℕ) where
         ∙ ap (λ (r : List ℕ). pairsWith g c r ++ rows (rest k (c + 1))) (rest-end k d l)
         ∙ sym (whole-rows (rest k (c + 1)))
 
-    one-more : (d : ℕ) (ds : List ℕ) → pairsWith g c (d ∷ ds) ≡ onePair g c d ++ pairsWith g c ds
-    unfolding pairsWith onePair
-    one-more d ds = go (pairAt g c d)
-      where
-        go : (b : Bool) → map {B = ℕ × ℕ} (λ e. (c, e)) (cond b (d ∷ keep (pairAt g c) ds) (keep (pairAt g c) ds))
-            ≡ cond b ((c, d) ∷ []) [] ++ map {B = ℕ × ℕ} (λ e. (c, e)) (keep (pairAt g c) ds)
-        go true = refl
-        go false = refl
-
     pub from-pair : (d : ℕ) → d < k → pairsFrom c d ≡ onePair g c d ++ pairsFrom c (d + 1)
     unfolding pairsFrom
     from-pair d l =
         ap (fromRow d) (rest-step k c h)
         ∙ ap (λ (r : List ℕ). pairsWith g c r ++ rows (rest k (c + 1))) (rest-step k d l)
-        ∙ ap (λ (r : List (ℕ × ℕ)). r ++ rows (rest k (c + 1))) (one-more d (rest k (d + 1)))
+        ∙ ap (λ (r : List (ℕ × ℕ)). r ++ rows (rest k (c + 1))) (with-more g c d (rest k (d + 1)))
         ∙ append-assoc (onePair g c d) (pairsWith g c (rest k (d + 1))) (rows (rest k (c + 1)))
         ∙ ap (λ (r : List (ℕ × ℕ)). onePair g c d ++ r) (sym (ap (fromRow (d + 1)) (rest-step k c h)))
 
@@ -216,20 +207,11 @@ module _ {g : Geometry} {trials n k : ℕ} {w₀ w : List ℕ} {used c d : ℕ} 
     abbrev o : Outcome (List ℕ)
     o = step g trials used c d leaders
 
-    one-within : Within k (onePair g c d)
-    unfolding onePair
-    one-within a b j = go (pairAt g c d) j
-      where
-        go : (x : Bool) → In {A = ℕ × ℕ} (a, b) (cond x ((c, d) ∷ []) []) → (a < k) × (b < k)
-        go true (inl e) = subst (λ (z : ℕ × ℕ). (z .0 < k) × (z .1 < k)) (sym e) (h, less)
-        go true (inr j) = absurd j
-        go false j = absurd j
-
     lead-length : length leaders ≡ k
     lead-length = part-length w (6 * n) k (omega (arith, i .few, i .room, i .size))
 
     stands : Alike k o (run byLowest (touchAt g) trials used (onePair g c d) (root leaders))
-    stands = alike (touchAt g) trials k (onePair g c d) one-within used (subst (λ (m : ℕ). Stands m (root leaders) leaders) lead-length (own-stands (i .falling)))
+    stands = alike (touchAt g) trials k (onePair g c d) (one-within g c d h less) used (subst (λ (m : ℕ). Stands m (root leaders) leaders) lead-length (own-stands (i .falling)))
 
     laid : over w (6 * n) (o .sets) ≡ over w₀ (6 * n) (o .sets)
     laid =

@@ -10,21 +10,18 @@ use lib.IntN.{ℤ}
 use lib.ListN.{length, getD}
 use Rattle.lists.specs.Lists.{keep, any, Below, nonzero}
 use Rattle.lists.specs.Words.{part}
-use Rattle.lists.specs.ListLaws.{nonzero-true}
 use Rattle.lists.specs.PartLaws.{part-first}
 use Rattle.hyperparams.specs.declared.ValidParams.{ValidParams}
 use Rattle.counting_tree.specs.Geometry.{Geometry}
 use Rattle.counting_tree.specs.Ready.{geometryAt, Ready}
-use Rattle.cells_grid.specs.Cells.{core, coreMembers, node, count}
+use Rattle.cells_grid.specs.Cells.{core, coreMembers, count}
 use Rattle.cells_grid.specs.CellLaws.{in-member}
 use Rattle.cells_grid.specs.Arrangement.{cellAt}
 use Rattle.cells_grid.specs.Places.{endIn}
 use Rattle.cells_grid.specs.ArrangementLaws.{cell-size, cell-end-le, cell-places}
-use Rattle.tree_structure.specs.declared.Counted.{Counted}
-use Rattle.tree_structure.specs.Encode.{toldOf}
 use Rattle.core_cells.specs.Forest.{Grown}
 use Rattle.clustering.specs.Clusters.{touches}
-use Rattle.clustering.proofs.Held.{lawful, frames, room, core-held, told}
+use Rattle.clustering.proofs.Held.{lawful, frames, room, core-held}
 
 -- frame i has a non-zero count in the tree of cell d
 abbrev hits : Geometry → ℕ → ℕ → Bool
@@ -67,7 +64,7 @@ module _ {g : Geometry} {w : List ℕ} {n end c d p : ℕ} (t : Touching g w n e
       rest = sym f ∙ t .rest;
     }
 
-    -- a is what the words say of the frame, and s its count
+    -- a is what the words say of the frame, and b whether its count is non-zero
     module _ {a : Bool} (ea : a ≡ eqb (getD w (4 * n + i) 0) 1) where
       is-core : core g i ≡ a
       is-core = sym (ea ∙ t .cores i frame-low)
@@ -75,16 +72,12 @@ module _ {g : Geometry} {w : List ℕ} {n end c d p : ℕ} (t : Touching g w n e
       pub touch-skip : a ≡ false → Touching g w n end c d (p + 1)
       touch-skip f = go-on (rw (next, is-core ∙ f))
 
-      module _ (f : a ≡ true) {s : Counted} (es : s ≡ toldOf (node g i (cellAt g d))) where
-        pub touch-hit : (s .count ≡ 0 → ⊥) → true ≡ touches g (cellAt g c) (cellAt g d)
-        touch-hit z =
-            let hit : hits g d i ≡ true = nonzero-true (count g i (cellAt g d)) (λ y. z (told g i d s es ∙ y)) in
-            sym (rw (next, is-core ∙ f, hit)) ∙ t .rest
+      module _ (f : a ≡ true) {b : Bool} (eb : b ≡ hits g d i) where
+        pub touch-hit : b ≡ true → true ≡ touches g (cellAt g c) (cellAt g d)
+        touch-hit z = sym (rw (next, is-core ∙ f, sym eb ∙ z)) ∙ t .rest
 
-        pub touch-miss : s .count ≡ 0 → Touching g w n end c d (p + 1)
-        touch-miss z =
-            let miss : hits g d i ≡ false = ap nonzero (sym (told g i d s es) ∙ z) in
-            go-on (rw (next, is-core ∙ f, miss))
+        pub touch-miss : b ≡ false → Touching g w n end c d (p + 1)
+        touch-miss z = go-on (rw (next, is-core ∙ f, sym eb ∙ z))
 
   pub touch-end : end ≤ p → false ≡ touches g (cellAt g c) (cellAt g d)
   touch-end h = let e : end - p ≡ 0 = omega arith in ap (λ (m : ℕ). any (hits g d) (keep (core g) (part w (3 * n + p) m))) (sym e) ∙ t .rest

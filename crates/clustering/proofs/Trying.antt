@@ -77,13 +77,13 @@ can-try s = record { small = s .0 .0 .few; few = few-cells (s .0 .0) (s .0 .1); 
 
 module _ {w : List ℕ} {n k c d : ℕ} (can : CanTry w n k c d) where
   -- the leaders, and as they are lent
-  abbrev p : List ℕ
+  abbrev pub p : List ℕ
   p = part w (6 * n) k
 
-  abbrev P : List ℕ
+  abbrev pub P : List ℕ
   P = part w (6 * n) (6 * n + k - 6 * n)
 
-  abbrev put : List ℕ → List ℕ
+  abbrev pub put : List ℕ → List ℕ
   put = putMid (6 * n) (6 * n + k - 6 * n) w
 
   own : Stands k (root p) p
@@ -113,7 +113,7 @@ module _ {w : List ℕ} {n k c d : ℕ} (can : CanTry w n k c d) where
         subst (Grown g k) (sym back-q) (grown-over gr e (6 * n) q (omega arith) (omega (arith, q-stands .size, can .few)) (omega (arith, can .room)))
 
     -- lent again
-    abbrev Q : List ℕ
+    abbrev pub Q : List ℕ
     Q = part (put q) (6 * n) (6 * n + k - 6 * n)
 
     again : Q ≡ q
@@ -124,14 +124,14 @@ module _ {w : List ℕ} {n k c d : ℕ} (can : CanTry w n k c d) where
         let l : length Q ≡ k = ap length again ∙ q-stands .size in
         (subst Falling (sym again) (q-stands .falling), omega (arith, can .first), omega (arith, can .second), omega (arith, can .few, can .small))
 
-    asked-words : put q ≡ over w (6 * n) (shortenBoth p c d)
+    pub asked-words : put q ≡ over w (6 * n) (shortenBoth p c d)
     asked-words = back-q ∙ ap (over w (6 * n)) q-is
 
     -- ---- after the union
-    abbrev U : List ℕ
+    abbrev pub U : List ℕ
     U = united (shortenBoth (shortenBoth p c d) c d) c d
 
-    united-words : {u : List ℕ} → u ≡ united (shortenBoth Q c d) c d → putMid (6 * n) (6 * n + k - 6 * n) (put q) u ≡ over w (6 * n) U
+    pub united-words : {u : List ℕ} → u ≡ united (shortenBoth Q c d) c d → putMid (6 * n) (6 * n + k - 6 * n) (put q) u ≡ over w (6 * n) U
     united-words {u} eu =
         let e : u ≡ U = eu ∙ ap (λ (z : List ℕ). united (shortenBoth z c d) c d) (again ∙ q-is) in
         let asked = both-stand own c d (can .first) (can .second) in

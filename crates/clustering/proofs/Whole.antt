@@ -1,16 +1,15 @@
--- Uniting, numbering and labelling, one after the other: what the words are after each.
+-- Hashing, uniting, numbering, labelling and clearing, one after the other: what the words are after each.
 use mathlib.Core.Path.{_≡_, sym, ap, _∙_, subst}
 use mathlib.Core.Bool.{Bool}
 use mathlib.Core.List.{List, []}
-use Prim.Native.Nat.{ℕ, _*_, _<_, _≤_}
+use Prim.Native.Nat.{ℕ, _+_, _*_, _<_, _≤_}
 use native.Mathlib.Nat.{mul-le-mul}
 use native.Mathlib.Omega.{arith}
 use lib.IntN.{ℤ}
-use lib.ListN.{length}
+use lib.ListN.{length, replicate}
 use Rattle.lists.specs.Lists.{numbers, howMany}
-use Rattle.lists.specs.Words.{over, part, column}
+use Rattle.lists.specs.Words.{over, part, column, Clear}
 use Rattle.lists.specs.ListLaws.{map-same, in-numbers, length-numbers}
-use Rattle.lists.specs.WordLaws.{over-length}
 use Rattle.lists.specs.PartLaws.{part-same, holds-at}
 use Rattle.hyperparams.specs.Params.{maxFrames}
 use Rattle.hyperparams.specs.declared.ValidParams.{ValidParams}
@@ -18,16 +17,17 @@ use Rattle.counting_tree.specs.Geometry.{Geometry}
 use Rattle.counting_tree.specs.Ready.{geometryAt, Ready}
 use Rattle.cells_grid.specs.Cells.{coreCell}
 use Rattle.cells_grid.specs.Arrangement.{cellAt}
+use Rattle.cells_grid.specs.Listing.{Hashed}
 use Rattle.core_cells.specs.Forest.{Grown}
-use Rattle.core_cells.specs.ForestLaws.{grown-over}
 use Rattle.clustering.specs.Clusters.{place, clusters, labelBy, kindOf}
 use Rattle.clustering.specs.Uniting.{uniting, lowestAt}
 use Rattle.clustering.specs.UnitingLaws.{uniting-finishes, lowest-led, cluster-total, cluster-word}
 use Rattle.clustering.specs.Numbering.{treeIn, lowestIn, Led, leads, numberBy, clusterWord}
 use Rattle.clustering.specs.NumberingLaws.{led-same, leads-same, number-same}
-use Rattle.clustering.proofs.Held.{lawful, frames, cell-count, few-cells, tree-held}
+use Rattle.clustering.proofs.Held.{lawful, cell-count, few-cells, tree-held}
+use Rattle.clustering.proofs.Searching.{CanSearch, HashedOn, hashed, search-start, search-over, hashed-on-over, hashed-on-cleared}
 
-module _ {ps : List ℤ} {v : ValidParams} {n : ℕ} (r : Ready ps v n) {k : ℕ} {w : List ℕ} (gr : Grown (geometryAt v n ps) k w) (l : 10 * n ≤ length w) where
+module _ {ps : List ℤ} {v : ValidParams} {n : ℕ} (r : Ready ps v n) {k : ℕ} {w : List ℕ} (gr : Grown (geometryAt v n ps) k w) (l : 16 * n ≤ length w) (cl : Clear w (10 * n) (6 * n)) where
   abbrev g : Geometry
   g = geometryAt v n ps
 
@@ -46,47 +46,80 @@ module _ {ps : List ℤ} {v : ValidParams} {n : ℕ} (r : Ready ps v n) {k : ℕ
   led : Led isCore low k
   led = subst (Led isCore low) (sym (cell-count r gr)) (lowest-led g (n * n))
 
-  -- ---- united
-  module _ {w₁ : List ℕ} (e₁ : w₁ ≡ over w (6 * n) (column low k)) where
-    room₁ : length w₁ ≡ length w
-    room₁ = ap length e₁ ∙ over-length w (6 * n) (column low k) (omega (arith, length-numbers low k, few))
+  -- ---- hashed
+  module _ {w₀ : List ℕ} (e₀ : w₀ ≡ hashed ps v n w) where
+    pub search₀ : CanSearch ps v n k w₀
+    search₀ = subst (CanSearch ps v n k) (sym e₀) (search-start r gr l cl)
 
-    grown₁ : Grown g k w₁
-    grown₁ = subst (Grown g k) (sym e₁) (grown-over gr (frames r gr) (6 * n) (column low k) (omega arith) (omega (arith, length-numbers low k, few)) (omega arith))
+    -- ---- united
+    module _ {w₁ : List ℕ} (e₁ : w₁ ≡ over w₀ (6 * n) (column low k)) where
+      search₁ : CanSearch ps v n k w₁
+      search₁ = subst (CanSearch ps v n k) (sym e₁) (search-over r (6 * n) (column low k) (omega arith) (omega (arith, length-numbers low k, few)) search₀)
 
-    core-same : (c : ℕ) → c < k → treeIn w₁ n c ≡ isCore c
-    core-same = tree-held r grown₁
+      core-same : (c : ℕ) → c < k → treeIn w₁ n c ≡ isCore c
+      core-same = tree-held r (search₁ .0)
 
-    low-same : (c : ℕ) → c < k → lowestIn w₁ n c ≡ low c
-    low-same c h = holds-at w₁ (6 * n) k low c (ap (λ (z : List ℕ). part z (6 * n) k) e₁ ∙ part-same w (6 * n) k (column low k) (omega arith) (length-numbers low k)) h
+      low-same : (c : ℕ) → c < k → lowestIn w₁ n c ≡ low c
+      low-same c h =
+          holds-at w₁ (6 * n) k low c (ap (λ (z : List ℕ). part z (6 * n) k) e₁ ∙ part-same w₀ (6 * n) k (column low k) (omega (arith, search₀ .1 .2)) (length-numbers low k)) h
 
-    pub can-number : (k ≤ n) × (n ≤ maxFrames) × (8 * n ≤ length w₁) × Led (treeIn w₁ n) (lowestIn w₁ n) k
-    can-number = (few, r .few, omega (arith, room₁), led-same core-same low-same led)
+      pub can-number : (k ≤ n) × (n ≤ maxFrames) × (8 * n ≤ length w₁) × Led (treeIn w₁ n) (lowestIn w₁ n) k
+      can-number = (few, r .few, omega (arith, search₁ .1 .2), led-same core-same low-same led)
 
-    pub clusters-counted : {m : ℕ} → m ≡ howMany (leads (treeIn w₁ n) (lowestIn w₁ n)) (numbers k) → m ≡ length (clusters g)
-    clusters-counted e =
-        e ∙ leads-same core-same low-same led k (omega arith) ∙ ap (λ (m : ℕ). howMany (leads isCore low) (numbers m)) (cell-count r gr) ∙ sym (cluster-total g (lawful r gr) (n * n) done)
+      pub clusters-counted : {m : ℕ} → m ≡ howMany (leads (treeIn w₁ n) (lowestIn w₁ n)) (numbers k) → m ≡ length (clusters g)
+      clusters-counted e =
+          e ∙ leads-same core-same low-same led k (omega arith) ∙ ap (λ (m : ℕ). howMany (leads isCore low) (numbers m)) (cell-count r gr) ∙ sym (cluster-total g (lawful r gr) (n * n) done)
 
-    -- ---- numbered
-    module _ {w₂ : List ℕ} (e₂ : w₂ ≡ over w₁ (7 * n) (column (numberBy (treeIn w₁ n) (lowestIn w₁ n)) k)) where
-      laid₂ : w₂ ≡ over w₁ (7 * n) (column (clusterWord g) k)
-      laid₂ = e₂ ∙ ap (over w₁ (7 * n)) (map-same (numberBy (treeIn w₁ n) (lowestIn w₁ n)) (clusterWord g) (numbers k) (λ c i.
-          let h = in-numbers k c i in
-          number-same core-same low-same led c h ∙ cluster-word g (lawful r gr) (n * n) done c (omega (arith, cell-count r gr))))
+      -- ---- numbered
+      module _ {w₂ : List ℕ} (e₂ : w₂ ≡ over w₁ (7 * n) (column (numberBy (treeIn w₁ n) (lowestIn w₁ n)) k)) where
+        abbrev numbered : List ℕ
+        numbered = column (clusterWord g) k
 
-      pub can-label : (Ready ps v n × Grown g k w₂) × ((10 * n ≤ length w₂) × (part w₂ (7 * n) k ≡ column (clusterWord g) k))
-      can-label =
-          let s = length-numbers (clusterWord g) k in (
-            (r, subst (Grown g k) (sym laid₂) (grown-over grown₁ (frames r gr) (7 * n) (column (clusterWord g) k) (omega arith) (omega (arith, s, few)) (omega (arith, room₁)))),
-            (
-              omega (arith, ap length laid₂, over-length w₁ (7 * n) (column (clusterWord g) k) (omega (arith, s, few, room₁)), room₁),
-              ap (λ (z : List ℕ). part z (7 * n) k) laid₂ ∙ part-same w₁ (7 * n) k (column (clusterWord g) k) (omega (arith, room₁)) s,
-            ),
-          )
+        laid₂ : w₂ ≡ over w₁ (7 * n) numbered
+        laid₂ = e₂ ∙ ap (over w₁ (7 * n)) (map-same (numberBy (treeIn w₁ n) (lowestIn w₁ n)) (clusterWord g) (numbers k) (λ c i.
+            let h = in-numbers k c i in
+            number-same core-same low-same led c h ∙ cluster-word g (lawful r gr) (n * n) done c (omega (arith, cell-count r gr))))
 
-      -- ---- labelled
-      abbrev labelled : List ℕ → List ℕ
-      labelled z = over (over z (8 * n) (column (labelBy g (λ c. place c (clusters g))) n)) (9 * n) (column (kindOf g) n)
+        search₂ : CanSearch ps v n k w₂
+        search₂ = subst (CanSearch ps v n k) (sym laid₂) (search-over r (7 * n) numbered (omega arith) (omega (arith, length-numbers (clusterWord g) k, few)) search₁)
 
-      pub all-laid : {w₃ : List ℕ} → w₃ ≡ labelled w₂ → w₃ ≡ labelled (over (over w (6 * n) (column low k)) (7 * n) (column (clusterWord g) k))
-      all-laid e = e ∙ ap labelled (laid₂ ∙ ap (λ (z : List ℕ). over z (7 * n) (column (clusterWord g) k)) e₁)
+        pub can-label : {m : ℕ} → m ≡ howMany (leads (treeIn w₁ n) (lowestIn w₁ n)) (numbers k)
+            → (Ready ps v n × Grown g k w₂) × ((Hashed v n ps w₂ × Clear w₂ (15 * n) n × (16 * n ≤ length w₂)) × ((m ≡ length (clusters g)) × (part w₂ (7 * n) k ≡ numbered)))
+        can-label e = (
+          (r, search₂ .0),
+          (search₂ .1, (clusters-counted e, ap (λ (z : List ℕ). part z (7 * n) k) laid₂ ∙ part-same w₁ (7 * n) k numbered (omega (arith, search₁ .1 .2)) (length-numbers (clusterWord g) k))),
+        )
+
+        -- ---- labelled
+        abbrev labels : List ℕ
+        labels = column (labelBy g (λ c. place c (clusters g))) n
+
+        abbrev kinds : List ℕ
+        kinds = column (kindOf g) n
+
+        module _ {w₃ : List ℕ} (e₃ : w₃ ≡ over (over w₂ (8 * n) labels) (9 * n) kinds) where
+          abbrev all : List ℕ → List ℕ
+          all z = over (over (over (over z (6 * n) (column low k)) (7 * n) numbered) (8 * n) labels) (9 * n) kinds
+
+          all-laid : w₃ ≡ all w₀
+          all-laid =
+              e₃ ∙ ap (λ (z : List ℕ). over (over z (8 * n) labels) (9 * n) kinds) (laid₂ ∙ ap (λ (z : List ℕ). over z (7 * n) numbered) e₁)
+
+          hashed-on : HashedOn ps v n (all w) w₃
+          hashed-on =
+              subst (HashedOn ps v n (all w)) (sym all-laid)
+              (hashed-on-over r (hashed-on-over r (hashed-on-over r (hashed-on-over r (record { room = l; clear = cl; laid = e₀ })
+              (6 * n) (column low k) (omega (arith, length-numbers low k, few)))
+              (7 * n) numbered (omega (arith, length-numbers (clusterWord g) k, few)))
+              (8 * n) labels (omega (arith, length-numbers (labelBy g (λ c. place c (clusters g))) n)))
+              (9 * n) kinds (omega (arith, length-numbers (kindOf g) n)))
+
+          pub can-clear : 10 * n + 5 * n ≤ length w₃
+          can-clear =
+              let s = search-over r (9 * n) kinds (omega arith) (omega (arith, length-numbers (kindOf g) n))
+              (search-over r (8 * n) labels (omega arith) (omega (arith, length-numbers (labelBy g (λ c. place c (clusters g))) n)) search₂) in
+              omega (arith, ap length e₃, s .1 .2)
+
+          -- ---- cleared
+          pub all-cleared : {w₄ : List ℕ} → w₄ ≡ over w₃ (10 * n) (replicate (5 * n) 0) → w₄ ≡ all w
+          all-cleared e = e ∙ hashed-on-cleared r hashed-on

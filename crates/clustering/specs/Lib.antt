@@ -7,6 +7,8 @@ pub mod LeaderPartition
 pub mod AnyList
 pub mod Uniting
 pub mod UnitingLaws
+pub mod UniteAll
+pub mod UniteAllLaws
 pub mod Numbering
 pub mod NumberingLaws
 pub mod AnyLabels

@@ -2,16 +2,16 @@
 use mathlib.Core.Path.{_≡_, refl, sym, ap, ap₂, _∙_, subst}
 use mathlib.Core.Logic.{inl, inr}
 use mathlib.Core.Bool.{Bool, true, false, _&&_, _||_, cond, and-assoc}
-use mathlib.Core.List.{List, [], _∷_, map}
+use mathlib.Core.List.{List, [], _∷_, _++_, map}
 use Prim.Native.Nat.{ℕ, _+_, _-_, _*_, _≤_, _<_, min}
 use native.Mathlib.Nat.{le-refl, le-trans, le-of-eq, le-of-lt, eq-or-lt-of-le, mul-le-mul-right}
 use native.Mathlib.Omega.{arith}
 use lib.Dec.{T, eqb, ltb, eqb→eq, ltb→lt, lt→ltb, nltb→le, T-not}
 use lib.ListN.{length, length-map}
-use Rattle.lists.specs.Lists.{numbers, keep, howMany, total, In}
+use Rattle.lists.specs.Lists.{numbers, keep, howMany, total, In, Below}
 use Rattle.lists.specs.ListLaws.{T-true, T-false, T-or-not, both-ways, and-left, and-right, and-both, or-cases, or-one, or-two}
 use Rattle.lists.specs.ListLaws.{keep-in, in-keep, keep-same, concat-in, in-concat, map-in, in-map, numbers-in, in-numbers, length-from}
-use Rattle.lists.specs.CountLaws.{keep-le, keep-keep, total-le, total-bool, length-concat, keep-map}
+use Rattle.lists.specs.CountLaws.{keep-le, keep-none, keep-keep, total-le, total-bool, length-concat, keep-map}
 use Rattle.lists.specs.OrderLaws.{keep-low}
 use Rattle.lists.specs.Chains.{Chain, alone, step, chain-first, chain-last}
 use Rattle.counting_tree.specs.Geometry.{Geometry}
@@ -21,12 +21,12 @@ use Rattle.cells_grid.specs.CellLaws.{cell-first, core-cell-in, in-core-cell, l
 use Rattle.cells_grid.specs.Arrangement.{cellAt}
 use Rattle.cells_grid.specs.ArrangementLaws.{cell-at, cell-at-one, cell-at-order, cells-by-number, number-below, number-at}
 use Rattle.partitions.specs.Trials.{merged, byLowest}
-use Rattle.partitions.specs.TrialLaws.{run-finishes, run-keeps, Link, joined-one, one-joined}
+use Rattle.partitions.specs.TrialLaws.{run-finishes, run-keeps, Link, Within, joined-one, one-joined}
 use Rattle.clustering.specs.Clusters.{touches, linked, clusters, place}
 use Rattle.clustering.specs.ClusterLaws.{Linked, linked-parts, parts-linked}
 use Rattle.clustering.specs.Leaders.{Leads, number-by-leaders, cluster-count}
 use Rattle.clustering.specs.LeaderPartition.{Lowest, unite-lowest, lower-either, equal}
-use Rattle.clustering.specs.Uniting.{pairAt, pairsWith, pairsOf, touchAt, uniting, lowestAt}
+use Rattle.clustering.specs.Uniting.{pairAt, onePair, pairsWith, pairsOf, touchAt, uniting, lowestAt}
 use Rattle.clustering.specs.Numbering.{Led, leads, numberBy, clusterWord}
 
 -- a chain, carried over by f
@@ -72,7 +72,7 @@ module _ (g : Geometry) where
         and-right (coreCell g (cellAt g a) && coreCell g (cellAt g b)) (listed g (cellAt g a) (cellAt g b)) t,
       )
 
-  parts-pair : (a b : ℕ) → T (coreCell g (cellAt g a)) → T (coreCell g (cellAt g b)) → T (listed g (cellAt g a) (cellAt g b)) → T (pairAt g a b)
+  pub parts-pair : (a b : ℕ) → T (coreCell g (cellAt g a)) → T (coreCell g (cellAt g b)) → T (listed g (cellAt g a) (cellAt g b)) → T (pairAt g a b)
   unfolding pairAt
   parts-pair a b h k l =
       and-both (coreCell g (cellAt g a) && coreCell g (cellAt g b)) (listed g (cellAt g a) (cellAt g b)) (and-both (coreCell g (cellAt g a)) (coreCell g (cellAt g b)) h k) l
@@ -82,6 +82,36 @@ module _ (g : Geometry) where
       let z = in-pairs a b i in
       let p = pair-parts a b (z .2) in
       ((z .0, p .0), (z .1, p .1))
+
+  -- the pairs of c with d and with other cells
+  pub with-more : (c d : ℕ) (ds : List ℕ) → pairsWith g c (d ∷ ds) ≡ onePair g c d ++ pairsWith g c ds
+  unfolding pairsWith onePair
+  with-more c d ds = go (pairAt g c d)
+    where
+      go : (b : Bool) → map {B = ℕ × ℕ} (λ e. (c, e)) (cond b (d ∷ keep (pairAt g c) ds) (keep (pairAt g c) ds))
+          ≡ cond b ((c, d) ∷ []) [] ++ map {B = ℕ × ℕ} (λ e. (c, e)) (keep (pairAt g c) ds)
+      go true = refl
+      go false = refl
+
+  pub one-within : (c d : ℕ) {k : ℕ} → c < k → d < k → Within k (onePair g c d)
+  unfolding onePair
+  one-within c d {k} h l a b j = go (pairAt g c d) j
+    where
+      go : (x : Bool) → In {A = ℕ × ℕ} (a, b) (cond x ((c, d) ∷ []) []) → (a < k) × (b < k)
+      go true (inl e) = subst (λ (z : ℕ × ℕ). (z .0 < k) × (z .1 < k)) (sym e) (h, l)
+      go true (inr j) = absurd j
+      go false j = absurd j
+
+  pub with-within : (c : ℕ) (ds : List ℕ) {k : ℕ} → c < k → Below k ds → Within k (pairsWith g c ds)
+  unfolding pairsWith
+  with-within c ds {k} h l a b j =
+      let x = in-map (λ d. (c, d)) (a, b) (keep (pairAt g c) ds) j in
+      subst (λ (z : ℕ × ℕ). (z .0 < k) × (z .1 < k)) (sym (x .2)) (h, l (x .0) (in-keep (pairAt g c) (x .0) ds (x .1) .0))
+
+  -- a cell with no tree has no pairs
+  pub with-none : (c : ℕ) (ds : List ℕ) → coreCell g (cellAt g c) ≡ false → pairsWith g c ds ≡ []
+  unfolding pairsWith
+  with-none c ds e = ap (map {B = ℕ × ℕ} (λ d. (c, d))) (keep-none (pairAt g c) ds (λ d i t. subst T e (pair-parts c d t .0)))
 
   -- there are at most as many pairs as ordered pairs of cells
   pub pairs-few : length (pairsOf g) ≤ cellCount * cellCount

@@ -4,16 +4,18 @@ use crate::KINDS;
 use crate::LABELS;
 use crate::LEADERS;
 use crate::NONE;
+use cells_grid::listing::LIST;
 use hyperparams::ValidParams;
 use lists::Word;
 ghost use mathlib.Core.Path.{_≡_};
 ghost use Prim.Native.Nat.{_*_, _<_, _≤_};
 ghost use lib.ListN.{length};
 ghost use Rattle.lists.specs.Lists.{numbers, keep, howMany, headOr};
-ghost use Rattle.lists.specs.Words.{over, part, column};
+ghost use Rattle.lists.specs.Words.{over, part, column, Clear};
 ghost use Rattle.hyperparams.specs.Params.{maxFrames};
 ghost use Rattle.counting_tree.specs.Ready.{geometryAt, Ready};
 ghost use Rattle.cells_grid.specs.Cells.{cellNumber};
+ghost use Rattle.cells_grid.specs.Listing.{Hashed};
 ghost use Rattle.core_cells.specs.Forest.{Grown};
 ghost use Rattle.clustering.specs.Clusters.{place, clusters, labelBy, kindOf};
 ghost use Rattle.clustering.specs.Numbering.{treeIn, lowestIn, Led, leads, numberBy, clusterWord, bordersAt};
@@ -53,57 +55,59 @@ pub fn number_clusters(work: &mut [Word], n: usize, k: usize) -> usize
     m
 }
 
-// Whether frame i, of cell `own`, has a non-zero count in the tree of cell c, and `own` lists c.
-fn borders(
+// The lowest listed cell in whose tree frame i has a non-zero count; k where there is none.
+fn border_cell(
     points: &[i16],
     v: ValidParams,
     n: usize,
     k: usize,
-    work: &[Word],
+    work: &mut [Word],
     i: usize,
-    own: usize,
-    c: usize,
-) -> bool
-    requires { ⌜ Ready (now points) v n × Grown (geometryAt v n (now points)) k (now work) × (i < n) × (own < k) × (c < k) ⌝ }
-    ensures { λ r. ⌜ r ≡ bordersAt (geometryAt v n (now (points .entry))) own i c ⌝ }
-{
-    if cells_grid::is_listed(points, v, n, work, own, c) {
-        let t = core_cells::tree_count(points, v, n, k, work, i, c);
-        return t.count != 0;
-    }
-    false
-}
-
-// The first listed cell in whose tree frame i has a non-zero count; k where there is none.
-fn border_cell(points: &[i16], v: ValidParams, n: usize, k: usize, work: &[Word], i: usize) -> usize
+) -> usize
     requires { ⌜ Ready (now points) v n × Grown (geometryAt v n (now points)) k (now work) × (i < n) ⌝ }
+    requires { ⌜ Hashed v n (now points) (now work) × Clear (now work) (15 * n) n × (16 * n ≤ length (now work)) ⌝ }
     ensures cell { λ r. ⌜ (let g = geometryAt v n (now (points .entry)) in r ≡ headOr k (keep (bordersAt g (cellNumber g i) i) (numbers k))) ⌝ }
     ensures low { λ r. ⌜ r ≤ k ⌝ }
+    ensures work { λ _. ⌜ now (work .exit) ≡ now (work .entry) ⌝ }
 {
     let own = lists::word(work, i);
-    let mut b = 0;
-    while b < k {
-        if borders(points, v, n, k, work, i, own, b) {
-            return b;
+    let m = cells_grid::listing::list_cells(points, v, n, k, work, own);
+    let mut b = k;
+    let mut j = 0;
+    while j < m {
+        let next = j + 1;
+        let c = lists::word(work, LIST * n + j);
+        if c < b {
+            if core_cells::reaches(points, v, n, k, work, i, c) {
+                b = c;
+                j = next;
+            } else {
+                j = next;
+            }
+        } else {
+            j = next;
         }
-        b += 1;
     }
-    k
+    lists::clear_words(work, LIST * n, m);
+    b
 }
 
-// The label and the kind of frame i.
+// The label and the kind of frame i, where there are m clusters. Without a cluster no frame borders on a cell.
 pub fn label_frame(
     points: &[i16],
     v: ValidParams,
     n: usize,
     k: usize,
-    work: &[Word],
+    work: &mut [Word],
+    m: usize,
     i: usize,
 ) -> FrameLabel
     requires { ⌜ Ready (now points) v n × Grown (geometryAt v n (now points)) k (now work) × (i < n) ⌝ }
-    requires { ⌜ (8 * n ≤ length (now work)) × (part (now work) (7 * n) k ≡ column (clusterWord (geometryAt v n (now points))) k) ⌝ }
+    requires { ⌜ Hashed v n (now points) (now work) × Clear (now work) (15 * n) n × (16 * n ≤ length (now work)) ⌝ }
+    requires { ⌜ (m ≡ length (clusters (geometryAt v n (now points)))) × (part (now work) (7 * n) k ≡ column (clusterWord (geometryAt v n (now points))) k) ⌝ }
     ensures label { λ r. ⌜ (let g = geometryAt v n (now (points .entry)) in r .label ≡ labelBy g (λ c. place c (clusters g)) i) ⌝ }
     ensures kind { λ r. ⌜ r .kind ≡ kindOf (geometryAt v n (now (points .entry))) i ⌝ }
+    ensures work { λ _. ⌜ now (work .exit) ≡ now (work .entry) ⌝ }
 {
     if cells_grid::is_core(work, n, i) {
         let own = lists::word(work, i);
@@ -111,6 +115,12 @@ pub fn label_frame(
         return FrameLabel {
             label: work[at],
             kind: 2,
+        };
+    }
+    if m == 0 {
+        return FrameLabel {
+            label: NONE,
+            kind: 0,
         };
     }
     let b = border_cell(points, v, n, k, work, i);
@@ -127,17 +137,18 @@ pub fn label_frame(
     }
 }
 
-// Writes the label and the kind of each frame.
-pub fn label_frames(points: &[i16], v: ValidParams, n: usize, k: usize, work: &mut [Word])
+// Writes the label and the kind of each frame, where there are m clusters.
+pub fn label_frames(points: &[i16], v: ValidParams, n: usize, k: usize, work: &mut [Word], m: usize)
     requires { ⌜ Ready (now points) v n × Grown (geometryAt v n (now points)) k (now work) ⌝ }
-    requires { ⌜ (10 * n ≤ length (now work)) × (part (now work) (7 * n) k ≡ column (clusterWord (geometryAt v n (now points))) k) ⌝ }
+    requires { ⌜ Hashed v n (now points) (now work) × Clear (now work) (15 * n) n × (16 * n ≤ length (now work)) ⌝ }
+    requires { ⌜ (m ≡ length (clusters (geometryAt v n (now points)))) × (part (now work) (7 * n) k ≡ column (clusterWord (geometryAt v n (now points))) k) ⌝ }
     ensures { λ _. ⌜ (let g = geometryAt v n (now (points .entry)) in now (work .exit) ≡ over (over (now (work .entry))
         (8 * n) (column (labelBy g (λ c. place c (clusters g))) n))
         (9 * n) (column (kindOf g) n)) ⌝ }
 {
     let mut i = 0;
     while i < n {
-        let f = label_frame(points, v, n, k, work, i);
+        let f = label_frame(points, v, n, k, work, m, i);
         work[LABELS * n + i] = f.label;
         work[KINDS * n + i] = f.kind as Word;
         i += 1;

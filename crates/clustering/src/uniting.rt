@@ -1,20 +1,27 @@
-// Uniting the linked core cells (`unite_neighbouring_cells` of the source's CellsGrid), by trials of which there is a given number.
+// Uniting the linked core cells (`unite_neighbouring_cells` of the source's CellsGrid): by trials of which there is a given number,
+// and by the cells' lists with no count.
 use crate::LEADERS;
 use cells_grid::PLACES;
 use cells_grid::STARTS;
+use cells_grid::listing::LIST;
 use hyperparams::ValidParams;
 use lists::Word;
 ghost use mathlib.Core.Path.{_≡_};
 ghost use Prim.Native.Nat.{_+_, _*_, _<_, _≤_};
+ghost use lib.Dec.{T};
 ghost use lib.ListN.{length};
-ghost use Rattle.lists.specs.Words.{over, part, column};
+ghost use Rattle.lists.specs.Lists.{numbers};
+ghost use Rattle.lists.specs.Words.{over, part, column, Clear};
 ghost use Rattle.counting_tree.specs.Ready.{geometryAt, Ready};
+ghost use Rattle.cells_grid.specs.Cells.{coreCell};
 ghost use Rattle.cells_grid.specs.Arrangement.{cellAt};
+ghost use Rattle.cells_grid.specs.Listing.{listOf, Hashed};
 ghost use Rattle.core_cells.specs.Forest.{Grown};
 ghost use Rattle.partitions.specs.Leaders.{Falling, root};
 ghost use Rattle.partitions.specs.Trials.{run, byLeaders};
 ghost use Rattle.clustering.specs.Clusters.{touches};
-ghost use Rattle.clustering.specs.Uniting.{pairAt, onePair, pairsOf, touchAt, stopped, progressOf, uniting, lowestAt};
+ghost use Rattle.clustering.specs.Uniting.{pairAt, onePair, pairsWith, pairsOf, touchAt, stopped, progressOf, uniting, lowestAt};
+ghost use Rattle.clustering.specs.UniteAll.{meetAll, byOwnLeaders, pairsBy};
 
 // What a trial left: the trials used, and whether the pair needs one more than there are.
 struct Tried {
@@ -48,8 +55,7 @@ pub fn touches_cell(
         let next = p + 1;
         let i = lists::word(work, PLACES * n + p);
         if cells_grid::is_core(work, n, i) {
-            let t = core_cells::tree_count(points, v, n, k, work, i, d);
-            if t.count != 0 {
+            if core_cells::reaches(points, v, n, k, work, i, d) {
                 return true;
             }
             p = next;
@@ -203,4 +209,93 @@ pub fn unite_neighbouring_cells(
     let p = unite_pairs(points, v, n, k, work, trials);
     flatten(&mut work[a..e]);
     p
+}
+
+// Takes a pair of cells: where they are in two sets and c touches d, makes one set of theirs.
+// (Most pairs are in one set, and have one leader: this is asked first.)
+fn meet_cells(
+    points: &[i16],
+    v: ValidParams,
+    n: usize,
+    k: usize,
+    work: &mut [Word],
+    c: usize,
+    d: usize,
+)
+    requires { ⌜ Ready (now points) v n × Grown (geometryAt v n (now points)) k (now work) × (c < k) × (d < k) ⌝ }
+    requires { ⌜ (7 * n ≤ length (now work)) × Falling (part (now work) (6 * n) k) ⌝ }
+    requires { ⌜ T (pairAt (geometryAt v n (now points)) c d) ⌝ }
+    ensures { λ _. ⌜ (let g = geometryAt v n (now (points .entry)) in now (work .exit) ≡ over (now (work .entry)) (6 * n)
+        (meetAll byOwnLeaders (touchAt g) (onePair g c d) (part (now (work .entry)) (6 * n) k))) ⌝ }
+{
+    let a = LEADERS * n;
+    if lists::word(work, a + c) == lists::word(work, a + d) {
+        return;
+    }
+    let e = a + k;
+    if partitions::same_set(&mut work[a..e], c, d) {
+        return;
+    }
+    if touches_cell(points, v, n, k, work, c, d) {
+        partitions::union(&mut work[a..e], c, d);
+    }
+}
+
+// Takes cell c, which has a tree, with each of the m cells of its list.
+fn unite_list(
+    points: &[i16],
+    v: ValidParams,
+    n: usize,
+    k: usize,
+    work: &mut [Word],
+    c: usize,
+    m: usize,
+)
+    requires { ⌜ Ready (now points) v n × Grown (geometryAt v n (now points)) k (now work) × (c < k) ⌝ }
+    requires { ⌜ (16 * n ≤ length (now work)) × Falling (part (now work) (6 * n) k) ⌝ }
+    requires { ⌜ T (coreCell (geometryAt v n (now points)) (cellAt (geometryAt v n (now points)) c)) ⌝ }
+    requires { ⌜ (m ≡ length (listOf v n (now points) c)) × (part (now work) (15 * n) m ≡ listOf v n (now points) c) ⌝ }
+    ensures { λ _. ⌜ (let g = geometryAt v n (now (points .entry)) in now (work .exit) ≡ over (now (work .entry)) (6 * n)
+        (meetAll byOwnLeaders (touchAt g) (pairsWith g c (listOf v n (now (points .entry)) c)) (part (now (work .entry)) (6 * n) k))) ⌝ }
+{
+    let mut j = 0;
+    while j < m {
+        let d = lists::word(work, LIST * n + j);
+        meet_cells(points, v, n, k, work, c, d);
+        j += 1;
+    }
+}
+
+// Takes each cell that has a tree with the cells of its list.
+fn unite_lists(points: &[i16], v: ValidParams, n: usize, k: usize, work: &mut [Word])
+    requires { ⌜ Ready (now points) v n × Grown (geometryAt v n (now points)) k (now work) × Hashed v n (now points) (now work) ⌝ }
+    requires { ⌜ (16 * n ≤ length (now work)) × Clear (now work) (15 * n) n × Falling (part (now work) (6 * n) k) ⌝ }
+    ensures { λ _. ⌜ (let g = geometryAt v n (now (points .entry)) in now (work .exit) ≡ over (now (work .entry)) (6 * n)
+        (meetAll byOwnLeaders (touchAt g) (pairsBy g (listOf v n (now (points .entry))) (numbers k)) (part (now (work .entry)) (6 * n) k))) ⌝ }
+{
+    let mut c = 0;
+    while c < k {
+        let next = c + 1;
+        if core_cells::has_tree(work, n, c) {
+            let m = cells_grid::listing::list_cells(points, v, n, k, work, c);
+            unite_list(points, v, n, k, work, c, m);
+            lists::clear_words(work, LIST * n, m);
+            c = next;
+        } else {
+            c = next;
+        }
+    }
+}
+
+// Writes the lowest cell of each cell's set, with all linked core cells united, in whatever order the lists give them.
+pub fn unite_listed_cells(points: &[i16], v: ValidParams, n: usize, k: usize, work: &mut [Word])
+    requires { ⌜ Ready (now points) v n × Grown (geometryAt v n (now points)) k (now work) × Hashed v n (now points) (now work)
+        × (16 * n ≤ length (now work)) × Clear (now work) (15 * n) n ⌝ }
+    ensures { λ _. ⌜ now (work .exit) ≡ over (now (work .entry)) (6 * n) (column (lowestAt (geometryAt v n (now (points .entry))) (n * n)) k) ⌝ }
+{
+    let a = LEADERS * n;
+    let e = a + k;
+    partitions::reset(&mut work[a..e]);
+    unite_lists(points, v, n, k, work);
+    flatten(&mut work[a..e]);
 }

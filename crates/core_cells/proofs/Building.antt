@@ -6,28 +6,26 @@ use Prim.Native.Nat.{ℕ, _+_, _-_, _*_, _/_, _<_, _≤_}
 use native.Mathlib.Omega.{arith}
 use native.Mathlib.Nat.{le-refl}
 use lib.IntN.{ℤ}
-use lib.Dec.{eqb}
 use lib.ListN.{length, getD, set, replicate, length-replicate}
-use Rattle.lists.specs.Lists.{keep, Below, nonzero}
+use Rattle.lists.specs.Lists.{Below, nonzero}
 use Rattle.lists.specs.Words.{over, part, Clear}
-use Rattle.lists.specs.ListLaws.{nonzero-true, keep-same}
+use Rattle.lists.specs.ListLaws.{nonzero-true}
 use Rattle.lists.specs.WordLaws.{over-length, over-nil, over-again, over-apart, set-over}
 use Rattle.lists.specs.PartLaws.{set-under, part-same, clear-over, clear-after, clear-within}
 use Rattle.hyperparams.specs.Params.{maxFrames, workWords}
 use Rattle.hyperparams.specs.declared.ValidParams.{ValidParams}
 use Rattle.counting_tree.specs.Geometry.{Geometry}
 use Rattle.counting_tree.specs.Ready.{geometryAt, Ready, at-frames, at-levels}
-use Rattle.cells_grid.specs.Cells.{members, core, coreMembers}
+use Rattle.cells_grid.specs.Cells.{members}
 use Rattle.cells_grid.specs.Lawful.{Lawful}
 use Rattle.cells_grid.specs.Ready.{ready-lawful}
-use Rattle.cells_grid.specs.CellLaws.{in-member}
 use Rattle.cells_grid.specs.Arrangement.{cellAt, startAt, Cored}
 use Rattle.cells_grid.specs.Places.{endIn}
-use Rattle.cells_grid.specs.ArrangementLaws.{start-next, start-le, words-count, cell-size, cell-end-le, cell-places, core-word}
+use Rattle.cells_grid.specs.ArrangementLaws.{start-next, start-le, words-count, cell-size, cell-end-le, cell-places}
 use Rattle.tree_structure.specs.Encode.{size, encode, encode-length}
 use Rattle.tree_structure.specs.Work.{maxLevels, maxNodes, CanBuild}
 use Rattle.core_cells.specs.Forest.{coreAmong, CanGather, treeFrames, hasTree, treeSize, treeWords, nodesTo, treeWord}
-use Rattle.core_cells.specs.ForestLaws.{frames-below, frames-le, tree-frames, no-tree-word, no-tree-words, no-tree-size, no-tree-frames}
+use Rattle.core_cells.specs.ForestLaws.{cell-below, among-core, frames-below, frames-le, tree-frames, no-tree-word, no-tree-words, no-tree-size, no-tree-frames}
 use Rattle.core_cells.specs.ForestLaws.{tree-word, tree-words, tree-size, nodes-next, nodes-fit, nodes-most}
 
 pub ready-levels : {ps : List ℤ} {v : ValidParams} {n : ℕ} → Ready ps v n → geometryAt v n ps .levels ≤ maxLevels
@@ -70,9 +68,6 @@ module _ {g : Geometry} {n k : ℕ} {w : List ℕ} (R : Ripe g n k w) where
     places : part w (3 * n + from) (to - from) ≡ members g (cellAt g c)
     places = cell-places g (R .lawful) (R .cored .cells) n (R .frames) c h ef et
 
-    member-below : Below n (members g (cellAt g c))
-    member-below x i = omega (arith, in-member g (cellAt g c) x i .0, R .frames)
-
     pub can-gather : CanGather w n from to (10 * n)
     can-gather = record {
       few = R .few;
@@ -80,14 +75,8 @@ module _ {g : Geometry} {n k : ℕ} {w : List ℕ} (R : Ripe g n k w) where
       places = cell-end-le g (R .lawful) (R .cored .cells) n (R .frames) c h ef et;
       above = omega arith;
       room = omega (arith, R .room);
-      below = subst (Below n) (sym places) member-below;
+      below = subst (Below n) (sym places) (cell-below g (cellAt g c) (R .frames));
     }
-
-    core-frames : coreAmong w n from to ≡ treeFrames g c
-    unfolding coreAmong coreMembers
-    core-frames =
-        ap (keep (λ i. eqb (getD w (4 * n + i) 0) 1)) places
-        ∙ keep-same (λ i. eqb (getD w (4 * n + i) 0) 1) (core g) (members g (cellAt g c)) (λ i j. core-word g (R .cored) n (R .frames) i (member-below i j))
 
 -- the m core frames of cell c are gathered, and its tree is to stand at `at`
 pub record Gathered (g : Geometry) (n k : ℕ) (w : List ℕ) (c at m : ℕ) (w₁ : List ℕ) : Type 0 where
@@ -101,7 +90,7 @@ pub record Gathered (g : Geometry) (n k : ℕ) (w : List ℕ) (c at m : ℕ) (w�
 pub gathered : {g : Geometry} {n k : ℕ} {w : List ℕ} {c at m from to : ℕ} {w₁ : List ℕ} → Ripe g n k w → c < k → at ≡ 16 * n + 4 * nodesTo g c
     → from ≡ getD w (2 * n + c) 0 → to ≡ endIn w n k c → m ≡ length (coreAmong w n from to) → w₁ ≡ over w (10 * n) (coreAmong w n from to) → Gathered g n k w c at m w₁
 gathered {g} {n} {k} {w} {c} R h p ef et em e₁ =
-    let e = core-frames R h ef et in
+    let e = among-core (R .lawful) (R .cored) (R .frames) c h ef et in
     let l : startAt g (c + 1) ≤ g .frames = start-le g (R .lawful) (c + 1) (omega (arith, R .cored .cells .count)) in
     record {
       ripe = R;

@@ -12,16 +12,11 @@ use Rattle.lists.specs.CountLaws.{keep-append, keep-le}
 use Rattle.lists.specs.WordLaws.{over-length, over-nil, over-snoc}
 use Rattle.lists.specs.PartLaws.{part-length, part-snoc, part-below, get-under}
 use Rattle.core_cells.specs.Forest.{coreAmong, CanGather}
+use Rattle.core_cells.specs.NearestLaws.{among-none}
 
 -- the words w say that frame i is core
 abbrev marked : List ℕ → ℕ → ℕ → Bool
 marked w n i = eqb (getD w (4 * n + i) 0) 1
-
-among-none : (w : List ℕ) (n from : ℕ) → coreAmong w n from from ≡ []
-unfolding coreAmong
-among-none w n from =
-    let e : from - from ≡ 0 = omega arith in
-    rw e
 
 among-snoc : (w : List ℕ) (n from p : ℕ) → from ≤ p → 3 * n + p < length w
     → coreAmong w n from (p + 1) ≡ coreAmong w n from p ++ cond (marked w n (getD w (3 * n + p) 0)) (getD w (3 * n + p) 0 ∷ []) []

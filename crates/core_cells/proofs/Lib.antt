@@ -2,3 +2,5 @@ pub mod Building
 pub mod Counting
 pub mod Gathering
 pub mod Growing
+pub mod Looking
+pub mod Reaching

@@ -7,12 +7,12 @@ use Prim.Native.Nat.{ℕ, zero, suc, _+_, _*_, _<_, _≤_, zero-le}
 use native.Mathlib.Omega.{arith}
 use native.Mathlib.Nat.{le-trans, mul-le-mul, mul-le-mul-right}
 use native.Mathlib.Numerals.{add-one}
-use lib.Dec.{T-not, ltb, ltb→lt, nltb→le}
+use lib.Dec.{T-not, eqb, ltb, ltb→lt, nltb→le}
 use lib.ListN.{length, take, drop, getD, length-append, length-take, length-drop}
 use lib.Seq.{drop-at, take-at}
-use Rattle.lists.specs.Lists.{Below, nonzero}
+use Rattle.lists.specs.Lists.{keep, Below, nonzero}
 use Rattle.lists.specs.Words.{over, part, column}
-use Rattle.lists.specs.ListLaws.{true-T, nonzero-true, T-true, T-false, T-or-not, length-numbers}
+use Rattle.lists.specs.ListLaws.{true-T, nonzero-true, T-true, T-false, T-or-not, keep-same, length-numbers}
 use Rattle.lists.specs.CountLaws.{keep-le}
 use Rattle.lists.specs.WordLaws.{over-length}
 use Rattle.lists.specs.PartLaws.{part-part, part-under, part-above, part-same, holds-at}
@@ -23,12 +23,13 @@ use Rattle.counting_tree.specs.Tree.{byBox, counted}
 use Rattle.counting_tree.specs.Geometry.{Geometry}
 use Rattle.cells_grid.specs.Cells.{members, cells, core, coreMembers, coreCell, node}
 use Rattle.cells_grid.specs.Lawful.{Lawful}
-use Rattle.cells_grid.specs.CellLaws.{in-core}
+use Rattle.cells_grid.specs.CellLaws.{in-member, in-core}
 use Rattle.cells_grid.specs.Arrangement.{cellAt, startAt, Cored}
-use Rattle.cells_grid.specs.ArrangementLaws.{start-next, start-le, cells-le, cored-over}
+use Rattle.cells_grid.specs.Places.{endIn}
+use Rattle.cells_grid.specs.ArrangementLaws.{start-next, start-le, cells-le, cell-places, core-word, cored-over}
 use Rattle.tree_structure.specs.Encode.{size, encode, TreeAt, encode-length, size-le}
 use Rattle.tree_structure.specs.Work.{maxLevels, maxNodes}
-use Rattle.core_cells.specs.Forest.{treeFrames, hasTree, treeSize, treeWords, nodesTo, forestTo, treeWord, Grown}
+use Rattle.core_cells.specs.Forest.{coreAmong, treeFrames, hasTree, treeSize, treeWords, nodesTo, forestTo, treeWord, Grown}
 
 -- ---- no frames, no count
 byBox-nil : (v : IntersectionType) → byBox v [] [] ≡ []
@@ -204,6 +205,17 @@ module _ {g : Geometry} {k : ℕ} {w : List ℕ} (gr : Grown g k w) {n : ℕ} (e
     trees = part-under w (5 * g .frames) k b ws (omega (arith, gr .cored .cells .count, cells-le g)) f ∙ gr .trees;
     forest = part-above w (16 * g .frames) (length (forestTo g k)) b ws (omega arith) f ∙ gr .forest;
   }
+
+-- the core frames among a cell's places are those of its tree
+pub cell-below : (g : Geometry) (i : ℕ) {n : ℕ} → g .frames ≡ n → Below n (members g i)
+cell-below g i e x m = omega (arith, in-member g i x m .0)
+
+pub among-core : {g : Geometry} {k : ℕ} {w : List ℕ} → Lawful g → Cored g k w → {n : ℕ} → g .frames ≡ n → (c : ℕ) → c < k
+    → {from to : ℕ} → from ≡ getD w (2 * n + c) 0 → to ≡ endIn w n k c → coreAmong w n from to ≡ treeFrames g c
+unfolding coreAmong coreMembers
+among-core {g} {k} {w} L C {n} e c h ef et =
+    ap (keep (λ i. eqb (getD w (4 * n + i) 0) 1)) (cell-places g L (C .cells) n e c h ef et)
+    ∙ keep-same (λ i. eqb (getD w (4 * n + i) 0) 1) (core g) (members g (cellAt g c)) (λ i j. core-word g C n e i (cell-below g (cellAt g c) e i j))
 
 -- what `build_trees` lays holds them
 pub grown : {g : Geometry} {k : ℕ} {w : List ℕ} → Cored g k w → {n : ℕ} → g .frames ≡ n → 16 * n ≤ length w

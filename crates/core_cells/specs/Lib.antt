@@ -1,2 +1,4 @@
 pub mod Forest
 pub mod ForestLaws
+pub mod Nearest
+pub mod NearestLaws

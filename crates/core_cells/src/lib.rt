@@ -1,4 +1,5 @@
-// The trees of the core cells (CoreCellInfo of the source), in words of one lent slice: built for all cells, and asked for the count of a frame.
+// The trees of the core cells (CoreCellInfo of the source), in words of one lent slice: built for all cells, and asked for the count of a frame,
+// or only whether it is 0, which whole numbers mostly tell without the tree.
 // `v` has the settings, `n` is the number of frames, `k` the number of cells.
 use cells_grid::PLACES;
 use cells_grid::STARTS;
@@ -7,16 +8,20 @@ use lists::Word;
 use tree_structure::Counted;
 ghost use mathlib.Core.Path.{_≡_};
 ghost use mathlib.Core.List.{[], _∷_};
-ghost use Prim.Native.Nat.{_+_, _*_, _<_, _≤_};
+ghost use Prim.Native.Nat.{ℕ, _+_, _-_, _*_, _<_, _≤_};
 ghost use lib.ListN.{length, getD};
-ghost use Rattle.lists.specs.Lists.{nonzero};
-ghost use Rattle.lists.specs.Words.{over, column, Clear};
-ghost use Rattle.hyperparams.specs.Params.{workWords};
+ghost use Rattle.lists.specs.Lists.{In, nonzero};
+ghost use Rattle.lists.specs.Words.{over, part, column, Clear};
+ghost use Rattle.hyperparams.specs.Params.{maxPower, workWords};
+ghost use Rattle.counting_tree.specs.Frames.{framesIn};
+ghost use Rattle.counting_tree.specs.Geometry.{frame, N};
+ghost use Rattle.counting_tree.specs.Domain.{Counts};
 ghost use Rattle.counting_tree.specs.Ready.{geometryAt, Ready};
-ghost use Rattle.cells_grid.specs.Cells.{node};
+ghost use Rattle.cells_grid.specs.Cells.{node, count};
 ghost use Rattle.cells_grid.specs.Arrangement.{cellAt, Cored};
 ghost use Rattle.tree_structure.specs.Encode.{toldOf};
 ghost use Rattle.core_cells.specs.Forest.{coreAmong, CanGather, treeSize, treeWords, nodesTo, forestTo, treeWord, Grown};
+ghost use Rattle.core_cells.specs.Nearest.{lookedTo, CanLook, beyond, leastUntil, outOfReach};
 
 // The regions, of one word a frame: from 5n on where the tree of each cell begins, from 10n on the core frames of one cell,
 // from 11n and 12n on what building its tree needs. From 16n on the nodes, of four words.
@@ -29,6 +34,14 @@ const COPY: usize = 11;
 const SCRATCH: usize = 12;
 
 const NODES: usize = 16;
+
+// All frames of a cell of at most SMALL are looked at one by one before its tree is asked, of a larger one the first FEW.
+const SMALL: usize = 32;
+
+const FEW: usize = 8;
+
+// More than any sum of squared differences.
+const BEYOND: u64 = 34359738368;
 
 // Copies the core frames at the places from `from` up to `to`, to `at`. Returns how many there are.
 fn gather_core(work: &mut [Word], n: usize, from: usize, to: usize, at: usize) -> usize
@@ -127,4 +140,112 @@ pub fn tree_count(
         return Counted { count: 0, first: 0 };
     }
     tree_structure::approximate_range_counting(points, v, n, work, q, NODES * n + 4 * (t - 1))
+}
+
+// Up to which of a cell's places, from `from` up to `end`, the frames are looked at one by one.
+fn looked_to(from: usize, end: usize) -> usize
+    requires { ⌜ from ≤ end ⌝ }
+    ensures { λ r. ⌜ r ≡ lookedTo from end ⌝ }
+{
+    if end - from <= SMALL {
+        return end;
+    }
+    from + FEW
+}
+
+// The first sum of squared differences below t × t of frame q and a core frame at the places from `from` up to `to`;
+// if there is none, the least.
+fn least_square(
+    points: &[i16],
+    v: ValidParams,
+    n: usize,
+    work: &[Word],
+    q: usize,
+    from: usize,
+    to: usize,
+) -> u64
+    requires { ⌜ Ready (now points) v n × (q < n) × CanLook (now work) n from to ⌝ }
+    ensures value { λ r. ⌜ r ≡ leastUntil (v .t * v .t) (N v (framesIn n (v .channels) (now (points .entry))) q) beyond (coreAmong (now (work .entry)) n from to) ⌝ }
+    ensures bound { λ r. ⌜ r ≤ beyond ⌝ }
+{
+    let enough = v.t * v.t;
+    let mut least = BEYOND;
+    let mut p = from;
+    while p < to {
+        let next = p + 1;
+        let x = lists::word(work, PLACES * n + p);
+        if cells_grid::is_core(work, n, x) {
+            let apart = counting_tree::points::square_apart(points, v, n, q, x);
+            if apart < enough {
+                return apart;
+            }
+            if apart < least {
+                least = apart;
+                p = next;
+            } else {
+                p = next;
+            }
+        } else {
+            p = next;
+        }
+    }
+    least
+}
+
+// Reads the frames at the places from `from` up to `to`: their counts are then known to be signed 16-bit numbers.
+// Nothing is done with them, so the compiler leaves nothing of the loop.
+fn read_frames(points: &[i16], v: ValidParams, n: usize, work: &[Word], from: usize, to: usize)
+    requires { ⌜ Ready (now points) v n × CanLook (now work) n from to ⌝ }
+    ensures { λ _. ⌜ ((x : ℕ) → In x (part (now (work .entry)) (3 * n + from) (to - from)) → Counts (frame v (framesIn n (v .channels) (now (points .entry))) x)) ⌝ }
+{
+    let mut p = from;
+    while p < to {
+        counting_tree::points::read_frame(points, v, n, lists::word(work, PLACES * n + p));
+        p += 1;
+    }
+}
+
+// "The far reach is N × (4 to the power s) < (t × ((2 to the power s) + 1)) squared + (4 to the power s).": whether N is not below it.
+fn out_of_reach(t: u64, s: usize, square: u64) -> bool
+    requires { ⌜ (t ≤ 65535) × (s ≤ maxPower) × (square ≤ beyond) ⌝ }
+    ensures { λ r. ⌜ r ≡ outOfReach t s square ⌝ }
+{
+    let two = 1u64 << s;
+    let four = two * two;
+    let reach = t * (two + 1);
+    reach * reach + four <= square * four
+}
+
+// Whether frame q has a non-zero count in the tree of cell c. A core frame of the cell nearer than the tolerance gives one,
+// and none does where all are out of reach: the tree is asked only where the frames looked at leave it open.
+pub fn reaches(
+    points: &[i16],
+    v: ValidParams,
+    n: usize,
+    k: usize,
+    work: &[Word],
+    q: usize,
+    c: usize,
+) -> bool
+    requires { ⌜ Ready (now points) v n × Grown (geometryAt v n (now points)) k (now work) × (q < n) × (c < k) ⌝ }
+    ensures { λ r. ⌜ r ≡ nonzero (count (geometryAt v n (now (points .entry))) q (cellAt (geometryAt v n (now (points .entry))) c)) ⌝ }
+{
+    if !has_tree(work, n, c) {
+        return false;
+    }
+    let from = lists::word(work, STARTS * n + c);
+    let end = cells_grid::cell_end(work, n, k, c);
+    let to = looked_to(from, end);
+    counting_tree::points::read_frame(points, v, n, q);
+    read_frames(points, v, n, work, from, to);
+    let least = least_square(points, v, n, work, q, from, to);
+    if least < v.t * v.t {
+        return true;
+    }
+    if to == end {
+        if out_of_reach(v.t, v.s, least) {
+            return false;
+        }
+    }
+    tree_count(points, v, n, k, work, q, c).count != 0
 }

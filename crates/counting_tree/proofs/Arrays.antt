@@ -1,25 +1,31 @@
--- Arrays against the definitions: one coordinate more of a sum, of a centre, of a corner; the rows of the corners, and one row more of their scan.
+-- Arrays against the definitions: one coordinate more of a sum, of a corner; four elements, and the centre of a box; the rows of the corners, and one row more of their scan.
 use mathlib.Core.Path.{_≡_, refl, sym, ap, ap₂, _∙_}
 use mathlib.Core.Bool.{Bool, cond}
 use mathlib.Core.List.{List, [], _∷_, map, map-map}
 use Prim.Native.Nat.{ℕ, zero, suc, _+_, _*_, _/_, _%_, _^_, _≤_, _<_}
-use native.Mathlib.Nat.{pow-succ'}
+use native.Mathlib.Nat.{not-suc-le-zero, le-of-suc-le-suc, pow-succ'}
 use native.Mathlib.Numerals.{add-one}
 use native.Mathlib.Omega.{arith}
 use lib.Dec.{eqb, lit≤}
 use lib.IntN.{ℤ, pos}
+use lib.Signed.{mag}
 use lib.Pow.{pow-mono}
-use lib.ListN.{length, getD, take, drop, replicate, length-drop, drop-of-length-le}
-use lib.Seq.{drop-cons, length-take-le, getD-take, getD-drop}
-use lib.Ieee.{Float, nan, binary64, add, sub, mul, lt}
+use lib.ListN.{length, getD, take, drop, replicate, length-map, drop-of-length-le, List·getD-eq-default}
+use lib.Seq.{drop-cons, length-take-le, getD-take}
+use lib.Ieee.{Float, nan, binary64, ofBits, add, sub, mul, lt}
+use mir.Syntax.{w16}
+use mir.Val.{toZ, ofZ}
 use Rattle.lists.specs.Lists.{from, numbers}
 use Rattle.lists.specs.ListLaws.{length-numbers}
-use Rattle.lists.specs.Words.{part, column}
+use Rattle.lists.specs.Words.{over, column}
 use Rattle.lists.specs.PartLaws.{part-same}
 use Rattle.hyperparams.specs.Params.{float}
 use Rattle.counting_tree.specs.Grid.{index, centre, indexes, centres}
 use Rattle.counting_tree.specs.Box.{sumFrom, both, corners, distance, farthestFrom, farthest}
-use Rattle.counting_tree.specs.Arrays.{cornerOf, rowOf, rowsOf}
+use Rattle.counting_tree.specs.Arrays.{placed, boxOf, cornerOf, rowOf, rowsOf}
+use Rattle.counting_tree.specs.Indexes.{centres-length}
+use Rattle.counting_tree.proofs.Index.{zero-is}
+use Rattle.counting_tree.proofs.Counts.{read}
 
 -- ---- the sum of squares from channel i on
 module _ (n : ℕ) (q p : List Float) (a : n ≤ length q) (b : n ≤ length p) where
@@ -50,25 +56,6 @@ column-take f d xs n h = column-from f d xs 0 n (omega arith)
 map-self : {A : Type 0} (l : List A) → map (λ (x : A). x) l ≡ l
 map-self [] = refl
 map-self (x ∷ l) = ap (λ (r : List _). x ∷ r) (map-self l)
-
--- the centre of a frame's box
-abbrev pub centreAt : Float → List ℤ → ℕ → Float
-centreAt side frame i = centre side (index side (getD frame i (pos 0)))
-
-pub centre-column : (side : Float) (frame : List ℤ) (n : ℕ) → n ≤ length frame → column (centreAt side frame) n ≡ centres side (take n frame)
-unfolding centres indexes
-centre-column side frame n h = column-take (λ (z : ℤ). centre side (index side z)) (pos 0) frame n h ∙ sym (map-map (centre side) (index side) (take n frame))
-
--- the counts of a frame, from their start in the points
-abbrev pub countAt : List ℤ → ℕ → ℕ → ℤ
-countAt points start k = getD points (start + k) (pos 0)
-
-pub count-column : (points : List ℤ) (start n : ℕ) → start + n ≤ length points → column (countAt points start) n ≡ part points start n
-count-column points start n h = go 0 n ∙ column-take (λ (z : ℤ). z) (pos 0) (drop start points) n (omega (arith, length-drop start points)) ∙ map-self (take n (drop start points))
-  where
-    go : (a m : ℕ) → map (λ (k : ℕ). getD points (start + k) (pos 0)) (from a m) ≡ map (λ (k : ℕ). getD (drop start points) k (pos 0)) (from a m)
-    go a zero = refl
-    go a (suc m) = ap₂ (λ (x : ℤ) (l : List ℤ). x ∷ l) (sym (getD-drop start points a (pos 0))) (go (suc a) m)
 
 -- ---- one corner, coordinate by coordinate
 corner-long : (r : List Float) (e : Float) (k : ℕ) → length (cornerOf r e k) ≡ length r
@@ -172,3 +159,48 @@ module _ (n m : ℕ) (qs : List Float) (all : List (List Float)) (long : m ≤ l
   pub scan-done : (far : Float) (k : ℕ) → m ≤ k → far ≡ scanRest far k
   unfolding farthestFrom
   scan-done far k h = let j : length (take m all) ≤ k = omega (arith, length-take-le m all long) in rw (drop-of-length-le (take m all) j)
+
+-- ---- at most four elements as they stand in an array, z after them
+four-over : {A : Type 0} (z : A) (ys : List A) (a b c d : A) → length ys ≤ 4 → a ≡ getD ys 0 z → b ≡ getD ys 1 z → c ≡ getD ys 2 z → d ≡ getD ys 3 z → a ∷ b ∷ c ∷ d ∷ [] ≡ over (replicate 4 z) 0 ys
+four-over z [] a b c d h e f g i = rw (e, f, g, i)
+four-over z (w ∷ []) a b c d h e f g i = rw (e, f, g, i)
+four-over z (w ∷ x ∷ []) a b c d h e f g i = rw (e, f, g, i)
+four-over z (w ∷ x ∷ y ∷ []) a b c d h e f g i = rw (e, f, g, i)
+four-over z (w ∷ x ∷ y ∷ u ∷ []) a b c d h e f g i = rw (e, f, g, i)
+four-over z (w ∷ x ∷ y ∷ u ∷ t ∷ l) a b c d h e f g i = absurd (omega arith)
+
+pub four-placed : (ys : List ℤ) (a b c d : ℤ) → length ys ≤ 4 → a ≡ getD ys 0 (pos 0) → b ≡ getD ys 1 (pos 0) → c ≡ getD ys 2 (pos 0) → d ≡ getD ys 3 (pos 0) → a ∷ b ∷ c ∷ d ∷ [] ≡ placed ys
+unfolding placed
+four-placed = four-over (pos 0)
+
+pub at-map : {A B : Type 0} (f : A → B) (d : A) (e : B) (l : List A) (k : ℕ) → k < length l → getD (map f l) k e ≡ f (getD l k d)
+at-map f d e [] k h = absurd (not-suc-le-zero h)
+at-map f d e (x ∷ l) zero h = refl
+at-map f d e (x ∷ l) (suc k) h = at-map f d e l k (le-of-suc-le-suc h)
+
+-- the centre of the box of a frame in an array
+module _ (n : ℕ) (side : Float) (frame : List ℤ) (long : length frame ≡ 4) (few : n ≤ 4) where
+  abbrev zs : List ℤ
+  zs = take n frame
+
+  zs-length : length zs ≡ n
+  zs-length = length-take-le n frame (omega arith)
+
+  all-length : length (centres side zs) ≡ n
+  all-length = centres-length side zs ∙ zs-length
+
+  pub four-centres : (a b c d : Float) → a ≡ getD (centres side (take n frame)) 0 (float 0) → b ≡ getD (centres side (take n frame)) 1 (float 0) → c ≡ getD (centres side (take n frame)) 2 (float 0) → d ≡ getD (centres side (take n frame)) 3 (float 0)
+      → a ∷ b ∷ c ∷ d ∷ [] ≡ boxOf n side frame .centre
+  unfolding boxOf
+  four-centres a b c d = four-over (float 0) (centres side zs) a b c d (omega (arith, all-length))
+
+  -- channel k is used
+  pub centre-here : (k : ℕ) (x : Float) → k < n → mag (getD frame k (pos 0)) < 2 ^ 15 → x ≡ centre side (index side (toZ w16 (ofZ w16 (getD frame k (pos 0))))) → x ≡ getD (centres side (take n frame)) k (float 0)
+  unfolding centres indexes
+  centre-here k x h g e =
+      e ∙ ap (λ (z : ℤ). centre side (index side z)) (read (getD frame k (pos 0)) g ∙ sym (getD-take n frame k (pos 0) h))
+      ∙ sym (at-map (centre side) (pos 0) (float 0) (map (index side) zs) k (omega (arith, length-map zs (index side), zs-length)) ∙ ap (centre side) (at-map (index side) (pos 0) (pos 0) zs k (omega (arith, zs-length))))
+
+  -- it is not
+  pub centre-past : (k : ℕ) → n ≤ k → ofBits binary64 0 ≡ getD (centres side (take n frame)) k (float 0)
+  centre-past k h = sym zero-is ∙ sym (List·getD-eq-default (centres side zs) (float 0) (omega (arith, all-length)))

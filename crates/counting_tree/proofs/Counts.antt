@@ -1,21 +1,23 @@
 -- Signed 16-bit counts: as natural numbers, and what is read back from their bits.
 use mathlib.Core.Path.{_≡_, refl, sym, ap, ap₂, subst, _∙_}
+use mathlib.Core.Bool.{Bool, true, false, cond}
 use mathlib.Core.List.{List, [], _∷_, map}
 use Prim.Native.Nat.{ℕ, zero, suc, _+_, _-_, _*_, _^_, _≤_, _<_}
-use native.Mathlib.Nat.{mul-le-mul, lt-of-lt-of-le, add-assoc, add-zero}
-use native.Mathlib.Numerals.{add-one}
+use native.Mathlib.Nat.{mul-le-mul, lt-of-lt-of-le, lt-of-le-of-lt}
 use native.Mathlib.Omega.{arith}
-use borrow.Author.Tests.{le-ltb}
-use lib.Dec.{T, lit≤}
-use lib.IntN.{ℤ, pos, negsuc, natAbs, _+ℤ_}
+use borrow.Author.Tests.{le-ltb, ltb-true, ltb-false}
+use lib.Dec.{T, ltb, lit<, lit≤}
+use lib.IntN.{ℤ, pos, negsuc, natAbs, subℕ, _+ℤ_, _-ℤ_, _*ℤ_}
 use lib.Signed.{mag, nonNeg}
-use lib.ListN.{length, getD, take, drop, drop-of-length-le}
-use lib.Seq.{drop-cons, getD-take, length-take-le}
+use lib.ListN.{length, getD, take, drop, List·getD-eq-default}
+use lib.Seq.{getD-take, getD-drop}
 use lib.Ieee.{Float, binary64, ofInt}
 use mir.Syntax.{w16, w64}
 use mir.Val.{SFits, toZ, ofZ}
 use mir.Facts.{toZ-ofZ, sfits-widen}
-use Rattle.counting_tree.specs.Frames.{apart, squared}
+use Rattle.lists.specs.Words.{part}
+use Rattle.lists.specs.PartLaws.{part-length}
+use Rattle.counting_tree.specs.Frames.{apart}
 
 -- a count, read back
 pub read : (c : ℤ) → mag c < 2 ^ 15 → toZ w16 (ofZ w16 c) ≡ c
@@ -57,36 +59,75 @@ raised c f =
       small = subst (λ (z : ℤ). natAbs z < 65536) (sym b) (raise-small c f);
     }
 
-pub apart-raised : (a b : ℤ) (x y : ℕ) → SFits w16 a → SFits w16 b → pos x ≡ a +ℤ pos 32768 → pos y ≡ b +ℤ pos 32768 → (x - y) + (y - x) ≡ apart a b
-apart-raised a b x y f g e h = ap₂ (λ (u w : ℕ). (u - w) + (w - u)) (same (e ∙ raise-is a f)) (same (h ∙ raise-is b g)) ∙ go a b (f .sfits) (g .sfits)
+-- ---- |a - b|, squared
+difference : (a b : ℕ) → natAbs (subℕ a b) ≡ (a - b) + (b - a)
+difference a b = by (ltb a b) refl
   where
-    same : {m n : ℕ} → pos m ≡ pos n → m ≡ n
-    same p = cc
+    by : (t : Bool) → ltb a b ≡ t → natAbs (cond t (negsuc (b - suc a)) (pos (a - b))) ≡ (a - b) + (b - a)
+    by true e = let h = ltb-true a b e in omega arith
+    by false e = let h = ltb-false a b e in omega arith
 
-    go : (a b : ℤ) → mag a < 32768 → mag b < 32768 → (raise a - raise b) + (raise b - raise a) ≡ apart a b
-    go (pos a) (pos b) f g = omega arith
-    go (pos a) (negsuc b) f g = omega arith
-    go (negsuc a) (pos b) f g = omega arith
-    go (negsuc a) (negsuc b) f g = omega arith
+apart-is : (x y : ℤ) → natAbs (x -ℤ y) ≡ apart x y
+apart-is (pos a) (pos zero) = omega arith
+apart-is (pos a) (pos (suc b)) = difference a (suc b)
+apart-is (pos a) (negsuc b) = refl
+apart-is (negsuc a) (pos zero) = difference 0 (suc a) ∙ omega arith
+apart-is (negsuc a) (pos (suc b)) = omega arith
+apart-is (negsuc a) (negsuc b) = difference (suc b) (suc a) ∙ omega arith
 
--- ---- the sum of squared differences of the channels from k on
-module _ (n : ℕ) (a b : List ℤ) (la : n ≤ length a) (lb : n ≤ length b) where
-  abbrev pub squareRest : ℕ → ℕ
-  squareRest k = squared (drop k (take n a)) (drop k (take n b))
+apart-small : (x y : ℤ) → SFits w16 x → SFits w16 y → apart x y < 65536
+apart-small (pos a) (pos b) f g = omega (arith, f .sfits, g .sfits)
+apart-small (pos a) (negsuc b) f g = omega (arith, f .sfits, g .sfits)
+apart-small (negsuc a) (pos b) f g = omega (arith, f .sfits, g .sfits)
+apart-small (negsuc a) (negsuc b) f g = omega (arith, f .sfits, g .sfits)
 
-  pub square-step : (sum k d : ℕ) → k < n → d ≡ apart (getD a k (pos 0)) (getD b k (pos 0)) → sum + d * d + squareRest (k + 1) ≡ sum + squareRest k
-  square-step sum k d h e =
-      let i : k < length (take n a) = omega (arith, length-take-le n a la) in
-      let j : k < length (take n b) = omega (arith, length-take-le n b lb) in
-      rw (add-one, drop-cons (take n a) k (pos 0) i, drop-cons (take n b) k (pos 0) j, getD-take n a k (pos 0) h, getD-take n b k (pos 0) h, e)
-      (add-assoc sum _ _)
+mag-le : (z : ℤ) → mag z ≤ natAbs z
+mag-le (pos n) = omega arith
+mag-le (negsuc n) = omega arith
 
-  pub square-done : (sum k : ℕ) → n ≤ k → sum ≡ sum + squareRest k
-  square-done sum k h = let i : length (take n a) ≤ k = omega (arith, length-take-le n a la) in rw (drop-of-length-le (take n a) i) (sym (add-zero sum))
+square-is : (z : ℤ) → z *ℤ z ≡ pos (natAbs z * natAbs z)
+square-is (pos n) = refl
+square-is (negsuc n) = refl
 
--- one square more
-pub square-small : (d : ℕ) → d < 65536 → d * d ≤ 4294967296
-square-small d h = mul-le-mul {n₂ = 65536} {m₂ = 65536} (omega arith) (omega arith)
+-- as the program subtracts and multiplies
+abbrev far : ℤ → ℤ → ℤ
+far a b = toZ w64 (ofZ w64 (toZ w64 (ofZ w64 (toZ w16 (ofZ w16 a))) -ℤ toZ w64 (ofZ w64 (toZ w16 (ofZ w16 b)))))
+
+pub record Squared (a b : ℤ) : Type 0 where
+  pub difference : SFits w64 (toZ w64 (ofZ w64 (toZ w16 (ofZ w16 a))) -ℤ toZ w64 (ofZ w64 (toZ w16 (ofZ w16 b))))
+  pub product : SFits w64 (far a b *ℤ far a b)
+  pub natural : T (nonNeg (toZ w64 (ofZ w64 (far a b *ℤ far a b))))
+  pub value : natAbs (toZ w64 (ofZ w64 (far a b *ℤ far a b))) ≡ apart a b * apart a b
+  pub small : natAbs (toZ w64 (ofZ w64 (far a b *ℤ far a b))) ≤ 2 ^ 32
+
+pub squared-of : (a b : ℤ) → SFits w16 a → SFits w16 b → Squared a b
+squared-of a b f g =
+    let m : ℕ = apart a b in
+    let s : m < 65536 = apart-small a b f g in
+    let q : m * m ≤ 2 ^ 32 = mul-le-mul {n₂ = 65536} {m₂ = 65536} (omega arith) (omega arith) in
+    let e : toZ w64 (ofZ w64 (toZ w16 (ofZ w16 a))) -ℤ toZ w64 (ofZ w64 (toZ w16 (ofZ w16 b))) ≡ a -ℤ b = ap₂ _-ℤ_ (widened a f) (widened b g) in
+    let d : SFits w64 (a -ℤ b) = record { sfits = omega (arith, mag-le (a -ℤ b), apart-is a b) } in
+    let h : far a b ≡ a -ℤ b = ap (λ (z : ℤ). toZ w64 (ofZ w64 z)) e ∙ toZ-ofZ d in
+    let p : far a b *ℤ far a b ≡ pos (m * m) = ap (λ (z : ℤ). z *ℤ z) h ∙ square-is (a -ℤ b) ∙ ap (λ (k : ℕ). pos (k * k)) (apart-is a b) in
+    let w : SFits w64 (pos (m * m)) = record { sfits = lt-of-le-of-lt q (lit< tt) } in
+    let x : toZ w64 (ofZ w64 (far a b *ℤ far a b)) ≡ pos (m * m) = ap (λ (z : ℤ). toZ w64 (ofZ w64 z)) p ∙ toZ-ofZ w in
+    record {
+      difference = subst (SFits w64) (sym e) d;
+      product = subst (SFits w64) (sym p) w;
+      natural = subst (λ (z : ℤ). T (nonNeg z)) (sym x) tt;
+      value = ap natAbs x;
+      small = subst (λ (z : ℤ). natAbs z ≤ 2 ^ 32) (sym x) q;
+    }
+
+-- ---- the counts of a frame, from their start in the points
+pub count-here : (ps : List ℤ) (start d k p : ℕ) → k < d → p ≡ start + k → getD ps p (pos 0) ≡ getD (part ps start d) k (pos 0)
+count-here ps start d k p h e = ap (λ (q : ℕ). getD ps q (pos 0)) e ∙ sym (getD-take d (drop start ps) k (pos 0) h ∙ getD-drop start ps k (pos 0))
+
+pub count-read : (ps : List ℤ) (start d k p : ℕ) → k < d → p ≡ start + k → mag (getD ps p (pos 0)) < 2 ^ 15 → toZ w16 (ofZ w16 (getD ps p (pos 0))) ≡ getD (part ps start d) k (pos 0)
+count-read ps start d k p h e g = read (getD ps p (pos 0)) g ∙ count-here ps start d k p h e
+
+pub count-past : (ps : List ℤ) (start d k : ℕ) → start + d ≤ length ps → d ≤ k → pos 0 ≡ getD (part ps start d) k (pos 0)
+count-past ps start d k l h = sym (List·getD-eq-default (part ps start d) (pos 0) (omega (arith, part-length ps start d l)))
 
 -- ---- four counts as floats
 abbrev back : ℤ → Float

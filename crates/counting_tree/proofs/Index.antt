@@ -24,7 +24,7 @@ use Rattle.counting_tree.specs.Grid.{index, indexAt, half}
 use Rattle.counting_tree.specs.Radius.{Side}
 use Rattle.counting_tree.specs.InBox.{side-pos, coordinate-is, side-half, half-side, indexBy, index-by}
 
-zero-is : float 0 ≡ ofBits binary64 0
+pub zero-is : float 0 ≡ ofBits binary64 0
 unfolding ofInt ofBits
 zero-is = refl
 

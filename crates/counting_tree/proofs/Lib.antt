@@ -4,3 +4,4 @@ pub mod Answer
 pub mod Counts
 pub mod Same
 pub mod Lent
+pub mod Squares

@@ -29,22 +29,22 @@ pub record Domain (v : ValidParams) (fs : List Frame) : Type 0 where
   pub channels-are : (i : ℕ) → i < length fs → length (getD fs i []) ≡ v .channels
   pub counts : (i : ℕ) → i < length fs → Counts (getD fs i [])
 
+-- frame i is a frame of counts where its places in the points hold counts
+pub frame-counts : (n d : ℕ) (ps : List ℤ) (i : ℕ) → n * d ≤ length ps → i < n → ((j : ℕ) → j < d → Count (getD ps (i * d + j) (pos 0))) → Counts (getD (framesIn n d ps) i [])
+frame-counts n d ps i h k c j l =
+    let m : j < d = subst (λ (w : ℕ). j < w) (frame-length n d ps i h k) l in
+    subst Count (sym (ap (λ (f : Frame). getD f j (pos 0)) (frame-at n d ps i k) ∙ getD-take d (drop (i * d) ps) j (pos 0) m ∙ getD-drop (i * d) ps j (pos 0))) (c j m)
+
 -- n frames of points
 pub domain-in : (ps : List ℤ) {v : ValidParams} (n : ℕ) → Settings v → n * v .channels ≤ length ps → Counts ps → Domain v (framesIn n (v .channels) ps)
 domain-in ps {v} n s h c = record {
   settings = s;
   channels-are = λ i k. frame-length n (v .channels) ps i h (below i k);
-  counts = λ i k. frame-counts i (below i k);
+  counts = λ i k. frame-counts n (v .channels) ps i h (below i k) (λ j m. c (i * v .channels + j) (omega (arith, frame-inside n (v .channels) (length ps) i h (below i k))));
 }
   where
     below : (i : ℕ) → i < length (framesIn n (v .channels) ps) → i < n
     below i k = subst (λ (m : ℕ). i < m) (frames-length n (v .channels) ps) k
-
-    frame-counts : (i : ℕ) → i < n → Counts (getD (framesIn n (v .channels) ps) i [])
-    frame-counts i k j l =
-        let m : j < v .channels = subst (λ (w : ℕ). j < w) (frame-length n (v .channels) ps i h k) l in
-        subst Count (sym (ap (λ (f : Frame). getD f j (pos 0)) (frame-at n (v .channels) ps i k) ∙ getD-take (v .channels) (drop (i * v .channels) ps) j (pos 0) m ∙ getD-drop (i * v .channels) ps j (pos 0)))
-        (c (i * v .channels + j) (omega (arith, frame-inside n (v .channels) (length ps) i h k)))
 
 -- every accepted run
 pub domain-of : (p : Params) (ps : List ℤ) (labels kinds work : ℕ) {v : ValidParams} → checkedOf p (length ps) labels kinds work ≡ Valid v → Counts ps → Domain v (framesOf (v .channels) ps)

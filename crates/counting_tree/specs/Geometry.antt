@@ -59,20 +59,28 @@ module _ (v : ValidParams) (fs : List Frame) where
   unfolding sideAt
   side l = sideAt (v .channels) (v .tolerance) l
 
-  -- "their indexes agree in each channel", at the side of level l
+  -- "their indexes agree in each channel", at a side
+  abbrev pub sameAt : Float → ℕ → ℕ → Bool
+  sameAt s i j = sameInts (indexes s (frame i)) (indexes s (frame j))
+
+  -- and at the side of level l
   unfoldable pub sameBox : ℕ → ℕ → ℕ → Bool
   unfolding side indexes
-  sameBox l i j = sameInts (indexes (side l) (frame i)) (indexes (side l) (frame j))
+  sameBox l i j = sameAt (side l) i j
 
   -- "frames within t": distance ≤ t
   unfoldable pub within : ℕ → ℕ → Bool
   unfolding distance le
   within i j = le (distance (floats (frame i)) (floats (frame j))) (v .tolerance)
 
-  -- "Box against frame q": of the box of level l in which frame x lies
+  -- "Box against frame q": of the box of a side in which frame x lies
+  abbrev pub boxAt : Float → ℕ → ℕ → IntersectionType
+  boxAt s q x = intersection (v .channels) (v .tolerance) (v .«appx_tolerance») s (centres s (frame x)) (floats (frame q))
+
+  -- and of the box of level l
   unfoldable pub box : ℕ → ℕ → ℕ → IntersectionType
   unfolding intersection side centres
-  box q l x = intersection (v .channels) (v .tolerance) (v .«appx_tolerance») (side l) (centres (side l) (frame x)) (floats (frame q))
+  box q l x = boxAt (side l) q x
 
   -- "a sum of squared differences from its own of at most 4 × t × t", with the factor as a parameter
   unfoldable pub near : ℕ → ℕ → ℕ → Bool

@@ -20,4 +20,6 @@ pub mod Answers
 pub mod Settings
 pub mod Domain
 pub mod Ready
+pub mod Indexes
 pub mod Sound
+pub mod Reach

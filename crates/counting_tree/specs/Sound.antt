@@ -84,14 +84,14 @@ count-small : (z : ℤ) → Count z → natAbs z ≤ 2 ^ 15
 count-small (pos n) h = omega arith
 count-small (negsuc n) h = h
 
-pair : (xs ys : Frame) → length xs ≡ length ys → Counts xs → Counts ys → Pair xs ys
+pub pair : (xs ys : Frame) → length xs ≡ length ys → Counts xs → Counts ys → Pair xs ys
 pair [] [] e h k = no-channel
 pair [] (y ∷ ys) e h k = absurd (omega arith)
 pair (x ∷ xs) [] e h k = absurd (omega arith)
 pair (x ∷ xs) (y ∷ ys) e h k = channel (count-small x (h 0 (zero-lt-suc (length xs)))) (count-small y (k 0 (zero-lt-suc (length ys)))) (pair xs ys (suc-inj e) (λ i l. h (suc i) (suc-le-suc l)) (λ i l. k (suc i) (suc-le-suc l)))
 
 -- ---- from units to N
-four-power : (s : ℕ) → 4 ^ s ≡ 2 ^ s * 2 ^ s
+pub four-power : (s : ℕ) → 4 ^ s ≡ 2 ^ s * 2 ^ s
 four-power s = sym (pow-mul 2 s 2) ∙ ringℕ (2 ^ s ∷ []) (search poly depth 30) done
 
 -- N u² < E² + u², and a E = X u

@@ -14,16 +14,38 @@ use super::grid::half_side;
 use crate::Box;
 use crate::IntersectionType;
 
+// The centre of the box in which a frame lies, with zeros after it.
+fn centre_of(frame: [i16; 4], side: f64, channels: usize) -> [f64; 4]
+    requires side { ⌜ Side side ⌝ }
+    requires channels { ⌜ channels ≤ 4 ⌝ }
+    ensures { λ r. ⌜ r ≡ boxOf channels side frame .centre ⌝ }
+{
+    if channels < 1 {
+        return [0.0, 0.0, 0.0, 0.0];
+    }
+    let a = cell_center(side, frame[0]);
+    if channels < 2 {
+        return [a, 0.0, 0.0, 0.0];
+    }
+    let b = cell_center(side, frame[1]);
+    if channels < 3 {
+        return [a, b, 0.0, 0.0];
+    }
+    let c = cell_center(side, frame[2]);
+    if channels < 4 {
+        return [a, b, c, 0.0];
+    }
+    let d = cell_center(side, frame[3]);
+    [a, b, c, d]
+}
+
 // The box in which a frame lies.
 pub fn box_of(frame: [i16; 4], side: f64, channels: usize) -> Box
     requires side { ⌜ Side side ⌝ }
     requires channels { ⌜ channels ≤ 4 ⌝ }
     ensures { λ r. ⌜ r ≡ boxOf channels side frame ⌝ }
 {
-    let mut centre = [0.0f64; 4];
-    for i in 0..channels {
-        centre[i] = cell_center(side, frame[i]);
-    }
+    let centre = centre_of(frame, side, channels);
     Box { centre, side }
 }
 
@@ -32,12 +54,26 @@ fn square_sum(q: [f64; 4], p: [f64; 4], channels: usize) -> f64
     requires { ⌜ channels ≤ 4 ⌝ }
     ensures { λ r. ⌜ r ≡ sumFrom (float 0) (take channels q) (take channels p) ⌝ }
 {
-    let mut sum = 0.0f64;
-    for i in 0..channels {
-        let d = q[i] - p[i];
-        sum = sum + d * d;
+    if channels < 1 {
+        return 0.0;
     }
-    sum
+    let a = q[0] - p[0];
+    let one = 0.0 + a * a;
+    if channels < 2 {
+        return one;
+    }
+    let b = q[1] - p[1];
+    let two = one + b * b;
+    if channels < 3 {
+        return two;
+    }
+    let c = q[2] - p[2];
+    let three = two + c * c;
+    if channels < 4 {
+        return three;
+    }
+    let d = q[3] - p[3];
+    three + d * d
 }
 
 // "Distance: .., then the root."

@@ -21,18 +21,6 @@ pub fn half_side(side: f64) -> f64
     side / 2.0
 }
 
-// The side of a level.
-pub fn side_at(t: f64, channels: usize, level: usize) -> f64
-    requires { ⌜ (1 ≤ channels) × (channels ≤ 4) ⌝ }
-    ensures { λ r. ⌜ r ≡ sideAt channels t level ⌝ }
-{
-    let mut side = base_side(t, channels);
-    for l in 0..level {
-        side = half_side(side);
-    }
-    side
-}
-
 // Whether c lies in the box around 0: its lower edge counts, its upper edge does not.
 fn around_zero(c: f64, half: f64) -> bool
     ensures { λ r. ⌜ r ≡ (le (neg half) c && lt c half) ⌝ }

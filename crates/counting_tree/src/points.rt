@@ -7,19 +7,16 @@ ghost use lib.ListN.{length, take};
 ghost use lib.Ieee.{binary64, ofInt};
 ghost use Rattle.lists.specs.Words.{part};
 ghost use Rattle.hyperparams.specs.Params.{levels};
-ghost use Rattle.counting_tree.specs.Frames as Definitions;
-ghost use Rattle.counting_tree.specs.Frames.{squared};
+ghost use Rattle.counting_tree.specs.Frames.{framesIn, apart};
 ghost use Rattle.counting_tree.specs.Grid.{indexes};
-ghost use Rattle.counting_tree.specs.Geometry.{sameInts};
+ghost use Rattle.counting_tree.specs.Geometry.{frame, N, sameInts, boxAt};
 ghost use Rattle.counting_tree.specs.Arrays.{placed};
 ghost use Rattle.counting_tree.specs.Radius.{Side};
 ghost use Rattle.counting_tree.specs.Domain.{Counts};
 ghost use Rattle.counting_tree.specs.Ready.{Ready, geometryAt};
 use super::boxes::box_of;
 use super::boxes::determine_intersection;
-use super::boxes::distance;
 use super::grid::cell_index;
-use super::grid::side_at;
 use crate::IntersectionType;
 use hyperparams::ValidParams;
 
@@ -38,18 +35,40 @@ pub fn read_counts(points: &[i16]) -> usize
     i
 }
 
+// Reads the counts of frame i: each is then known to be a signed 16-bit number.
+pub fn read_frame(points: &[i16], v: ValidParams, n: usize, i: usize)
+    requires { ⌜ Ready (now points) v n × (i < n) ⌝ }
+    ensures { λ _. ⌜ Counts (frame v (framesIn n (v .channels) (now (points .entry))) i) ⌝ }
+{
+    let start = i * v.channels;
+    for k in 0..v.channels {
+        let count = points[start + k];
+    }
+}
+
 // Frame i, with zeros in the channels that are not used.
 pub fn frame_at(points: &[i16], channels: usize, i: usize) -> [i16; 4]
     requires channels { ⌜ channels ≤ 4 ⌝ }
     requires inside { ⌜ i * channels + channels ≤ length (now points) ⌝ }
     ensures { λ r. ⌜ r ≡ placed (part (now (points .entry)) (i * channels) channels) ⌝ }
 {
-    let start = i * channels;
-    let mut frame = [0i16; 4];
-    for k in 0..channels {
-        frame[k] = points[start + k];
+    if channels < 1 {
+        return [0, 0, 0, 0];
     }
-    frame
+    let start = i * channels;
+    let a = points[start];
+    if channels < 2 {
+        return [a, 0, 0, 0];
+    }
+    let b = points[start + 1];
+    if channels < 3 {
+        return [a, b, 0, 0];
+    }
+    let c = points[start + 2];
+    if channels < 4 {
+        return [a, b, c, 0];
+    }
+    [a, b, c, points[start + 3]]
 }
 
 // The counts as floats.
@@ -64,61 +83,101 @@ fn floats(frame: [i16; 4]) -> [f64; 4]
     ]
 }
 
-// Whether two frames have the same indexes.
-fn same_indexes(a: [i16; 4], b: [i16; 4], side: f64, channels: usize) -> bool
-    requires side { ⌜ Side side ⌝ }
-    requires channels { ⌜ channels ≤ 4 ⌝ }
-    ensures { λ r. ⌜ r ≡ sameInts (indexes side (take channels a)) (indexes side (take channels b)) ⌝ }
-{
-    for k in 0..channels {
-        if cell_index(side, a[k]) != cell_index(side, b[k]) {
-            return false;
-        }
-    }
-    true
-}
-
 // c + 2^15
-fn raised(c: i16) -> u64
+pub fn raised(c: i16) -> u64
     ensures value { λ r. ⌜ pos r ≡ c +ℤ pos 32768 ⌝ }
     ensures bound { λ r. ⌜ r < 65536 ⌝ }
 {
     (c as i64 + 32768) as u64
 }
 
-// |a − b|
-fn apart(a: i16, b: i16) -> u64
-    ensures value { λ r. ⌜ r ≡ Definitions.apart a b ⌝ }
-    ensures bound { λ r. ⌜ r < 65536 ⌝ }
+// |a − b|, squared.
+fn square(a: i16, b: i16) -> u64
+    ensures value { λ r. ⌜ r ≡ apart a b * apart a b ⌝ }
+    ensures bound { λ r. ⌜ r ≤ 2 ^ 32 ⌝ }
 {
-    let x = raised(a);
-    let y = raised(b);
-    if x < y { y - x } else { x - y }
+    let d = a as i64 - b as i64;
+    (d * d) as u64
 }
 
-// "N the sum of squared differences"
-fn squared(a: [i16; 4], b: [i16; 4], channels: usize) -> u64
-    requires { ⌜ channels ≤ 4 ⌝ }
-    ensures value { λ r. ⌜ r ≡ squared (take channels a) (take channels b) ⌝ }
+// "N the sum of squared differences" of frames i and j; their counts are then known to be signed 16-bit numbers.
+pub fn square_apart(points: &[i16], v: ValidParams, n: usize, i: usize, j: usize) -> u64
+    requires { ⌜ Ready (now points) v n × (i < n) × (j < n) ⌝ }
+    ensures value { λ r. ⌜ r ≡ N v (framesIn n (v .channels) (now (points .entry))) i j ⌝ }
     ensures bound { λ r. ⌜ r ≤ 2 ^ 34 ⌝ }
+    ensures counts { λ _. ⌜ (let fs = framesIn n (v .channels) (now (points .entry)) in Counts (frame v fs i) × Counts (frame v fs j)) ⌝ }
 {
-    let mut sum: u64 = 0;
-    for k in 0..channels {
-        let d = apart(a[k], b[k]);
-        sum += d * d;
+    let a = i * v.channels;
+    let b = j * v.channels;
+    let one = square(points[a], points[b]);
+    if v.channels < 2 {
+        return one;
     }
-    sum
+    let two = one + square(points[a + 1], points[b + 1]);
+    if v.channels < 3 {
+        return two;
+    }
+    let three = two + square(points[a + 2], points[b + 2]);
+    if v.channels < 4 {
+        return three;
+    }
+    three + square(points[a + 3], points[b + 3])
 }
 
-// Whether frames i and j share a box of a level.
-pub fn same_box(points: &[i16], v: ValidParams, n: usize, level: usize, i: usize, j: usize) -> bool
-    requires { ⌜ Ready (now points) v n × (level ≤ levels (v .s)) × (i < n) × (j < n) ⌝ }
-    ensures { λ r. ⌜ r ≡ geometryAt v n (now (points .entry)) .same level i j ⌝ }
+// The indexes of frame i at a side, with zeros in the channels that are not used.
+pub fn indexes_at(points: &[i16], v: ValidParams, n: usize, side: f64, i: usize) -> [i64; 4]
+    requires { ⌜ Ready (now points) v n × (i < n) × Side side ⌝ }
+    ensures { λ r. ⌜ r ≡ placed (indexes side (frame v (framesIn n (v .channels) (now (points .entry))) i)) ⌝ }
 {
-    let side = side_at(v.tolerance, v.channels, level);
-    let a = frame_at(points, v.channels, i);
-    let b = frame_at(points, v.channels, j);
-    same_indexes(a, b, side, v.channels)
+    let start = i * v.channels;
+    let a = cell_index(side, points[start]);
+    if v.channels < 2 {
+        return [a, 0, 0, 0];
+    }
+    let b = cell_index(side, points[start + 1]);
+    if v.channels < 3 {
+        return [a, b, 0, 0];
+    }
+    let c = cell_index(side, points[start + 2]);
+    if v.channels < 4 {
+        return [a, b, c, 0];
+    }
+    let d = cell_index(side, points[start + 3]);
+    [a, b, c, d]
+}
+
+// Whether frame j has the indexes `at` at a side: the first channel that differs settles it.
+pub fn has_indexes(
+    points: &[i16],
+    v: ValidParams,
+    n: usize,
+    side: f64,
+    at: [i64; 4],
+    j: usize,
+) -> bool
+    requires { ⌜ Ready (now points) v n × (j < n) × Side side ⌝ }
+    ensures { λ r. ⌜ r ≡ sameInts (take (v .channels) at) (indexes side (frame v (framesIn n (v .channels) (now (points .entry))) j)) ⌝ }
+{
+    let start = j * v.channels;
+    if cell_index(side, points[start]) != at[0] {
+        return false;
+    }
+    if v.channels < 2 {
+        return true;
+    }
+    if cell_index(side, points[start + 1]) != at[1] {
+        return false;
+    }
+    if v.channels < 3 {
+        return true;
+    }
+    if cell_index(side, points[start + 2]) != at[2] {
+        return false;
+    }
+    if v.channels < 4 {
+        return true;
+    }
+    cell_index(side, points[start + 3]) == at[3]
 }
 
 // Whether the cells with the first frames c and d list each other.
@@ -126,34 +185,29 @@ pub fn near_cells(points: &[i16], v: ValidParams, n: usize, c: usize, d: usize) 
     requires { ⌜ Ready (now points) v n × (c < n) × (d < n) ⌝ }
     ensures { λ r. ⌜ r ≡ geometryAt v n (now (points .entry)) .near c d ⌝ }
 {
-    let a = frame_at(points, v.channels, c);
-    let b = frame_at(points, v.channels, d);
-    squared(a, b, v.channels) <= SHORT * (v.t * v.t)
+    square_apart(points, v, n, c, d) <= SHORT * (v.t * v.t)
 }
 
-// Whether frames i and j lie at most the tolerance apart.
+// Whether frames i and j lie at most the tolerance apart: between frames "distance ≤ t" is "sum of squares ≤ t × t".
 pub fn within(points: &[i16], v: ValidParams, n: usize, i: usize, j: usize) -> bool
     requires { ⌜ Ready (now points) v n × (i < n) × (j < n) ⌝ }
     ensures { λ r. ⌜ r ≡ geometryAt v n (now (points .entry)) .within i j ⌝ }
 {
-    let a = frame_at(points, v.channels, i);
-    let b = frame_at(points, v.channels, j);
-    distance(floats(a), floats(b), v.channels) <= v.tolerance
+    square_apart(points, v, n, i, j) <= v.t * v.t
 }
 
-// How the box of a level in which frame x lies stands to frame q.
+// How the box of a side in which frame x lies stands to frame q.
 pub fn classify(
     points: &[i16],
     v: ValidParams,
     n: usize,
     q: usize,
-    level: usize,
+    side: f64,
     x: usize,
 ) -> IntersectionType
-    requires { ⌜ Ready (now points) v n × (level ≤ levels (v .s)) × (q < n) × (x < n) ⌝ }
-    ensures { λ r. ⌜ r ≡ geometryAt v n (now (points .entry)) .box q level x ⌝ }
+    requires { ⌜ Ready (now points) v n × Side side × (q < n) × (x < n) ⌝ }
+    ensures { λ r. ⌜ r ≡ boxAt v (framesIn n (v .channels) (now (points .entry))) side q x ⌝ }
 {
-    let side = side_at(v.tolerance, v.channels, level);
     let a = frame_at(points, v.channels, q);
     let b = frame_at(points, v.channels, x);
     let place = box_of(b, side, v.channels);

@@ -4,9 +4,12 @@ use mathlib.Core.List.{List}
 use Prim.Native.Nat.{ℕ, _*_, _/_, _<_, _≤_}
 use native.Mathlib.Omega.{arith}
 use lib.IntN.{ℤ}
-use lib.ListN.{length, replicate, length-replicate, getD-replicate}
+use lib.ListN.{length, replicate, length-replicate}
 use Rattle.lists.specs.Words.{over, column, Clear}
-use Rattle.lists.specs.PartLaws.{get-laid}
+use Rattle.lists.specs.ListLaws.{length-numbers}
+use Rattle.lists.specs.WordLaws.{over-length}
+use Rattle.lists.specs.PartLaws.{clear-within}
+use Rattle.lists.specs.Within.{Within, within-over, within-more, within-clear, made-clear}
 use Rattle.hyperparams.specs.Params.{workWords, maxFrames, checkedOf}
 use Rattle.hyperparams.specs.Accepted.{Accepted, accepted}
 use Rattle.hyperparams.specs.declared.Params.{Params}
@@ -18,37 +21,51 @@ use Rattle.counting_tree.specs.Ready.{geometryAt, Ready, at-frames, ready-of}
 use Rattle.cells_grid.specs.Cells.{cells}
 use Rattle.cells_grid.specs.Places.{populated}
 use Rattle.cells_grid.specs.Arrangement.{coreBit, Arranged, Cored}
-use Rattle.cells_grid.specs.ArrangementLaws.{words-count, cored, cored-over, populated-arranged}
+use Rattle.cells_grid.specs.ArrangementLaws.{words-count, cored, populated-arranged, populated-within}
 use Rattle.cells_grid.specs.Ready.{ready-lawful}
 use Rattle.core_cells.specs.Forest.{treeWord, forestTo}
 use Rattle.core_cells.specs.ForestLaws.{grown}
 use Rattle.detail.specs.Prepared.{Prepared}
 
--- w are the words before `prepare`, w₁ after `populate`, w₂ after `label_points`, w₃ after `clear_words`, w₄ after `build_trees`
-module _ {ps : List ℤ} {v : ValidParams} {n : ℕ} (r : Ready ps v n) {k : ℕ} (w : List ℕ) {w₁ : List ℕ}
-    (e : k ≡ length (cells (geometryAt v n ps))) (e₁ : w₁ ≡ populated (geometryAt v n ps) w) (h : 16 * n ≤ length w) where
+-- w are the words before `prepare`, w₀ after `clear_words`, w₁ after `populate`, w₂ after `label_points`, w₃ after `build_trees`
+module _ {ps : List ℤ} {v : ValidParams} {n : ℕ} (r : Ready ps v n) (w : List ℕ) {w₀ : List ℕ} (h : 16 * n ≤ length w) (e₀ : w₀ ≡ over w (10 * n) (replicate (6 * n) 0)) where
   abbrev g : Geometry
   g = geometryAt v n ps
 
   f : g .frames ≡ n
   f = at-frames v n ps
 
-  pub arranged₁ : Arranged g k w₁
-  arranged₁ = rw (e, e₁) (populated-arranged g (ready-lawful r) w (omega (arith, f)))
+  h₀ : 16 * n ≤ length w₀
+  h₀ = rw e₀ (omega (arith, over-length w (10 * n) (replicate (6 * n) 0) (omega (arith, length-replicate {A = ℕ} (6 * n) 0))))
 
-  module _ {w₂ w₃ : List ℕ} (e₂ : w₂ ≡ over w₁ (4 * n) (column (coreBit g) n)) (e₃ : w₃ ≡ over w₂ (10 * n) (replicate (3 * n) 0))
-      (h₁ : 16 * n ≤ length w₁) (h₂ : 16 * n ≤ length w₂) where
-    pub cored₃ : Cored g k w₃
-    cored₃ =
-        let C = subst (Cored g k) (sym e₂) (cored g arranged₁ n f (omega arith)) in
-        subst (Cored g k) (sym e₃) (cored-over g (10 * n) (replicate (3 * n) 0) (omega (arith, f)) (omega arith) C)
+  clear₀ : Clear w₀ (10 * n) (6 * n)
+  clear₀ = rw e₀ (made-clear w (10 * n) (6 * n) (omega arith))
 
-    pub prepared₄ : {w₄ : List ℕ} → w₄ ≡ over (over w₃ (5 * n) (column (treeWord g) k)) (16 * n) (forestTo g k) → 16 * n ≤ length w₃ → 16 * n ≤ length w₄ → Prepared ps v n k w₄
-    prepared₄ e₄ h₃ h₄ = record { ready = r; grown = rw e₄ (grown cored₃ f h₃); few = words-count g (ready-lawful r) (cored₃ .cells) n f; room = h₄ }
+  pub few-clear : Clear w₀ (10 * n) (3 * n)
+  few-clear = clear-within w₀ (10 * n) (6 * n) (10 * n) (3 * n) clear₀ (omega arith) (omega arith)
 
-pub clear₃ : (n : ℕ) (w₂ : List ℕ) {w₃ : List ℕ} → 16 * n ≤ length w₂ → w₃ ≡ over w₂ (10 * n) (replicate (3 * n) 0) → Clear w₃ (10 * n) (3 * n)
-clear₃ n w₂ h e₃ i l =
-    rw e₃ (get-laid w₂ (10 * n) i (replicate (3 * n) 0) (omega (arith, length-replicate {A = ℕ} (3 * n) 0)) (omega arith) ∙ getD-replicate (3 * n) i 0 0 l)
+  module _ {k : ℕ} {w₁ : List ℕ} (e : k ≡ length (cells g)) (e₁ : w₁ ≡ populated g w₀) where
+    within₁ : Within (4 * n) w₀ w₁
+    within₁ = subst (λ (x : ℕ). Within (4 * x) w₀ w₁) f (rw e₁ (populated-within g (ready-lawful r) w₀ (omega (arith, f, h₀))))
+
+    pub arranged₁ : Arranged g k w₁
+    arranged₁ = rw (e, e₁) (populated-arranged g (ready-lawful r) w₀ (omega (arith, f, h₀)))
+
+    pub clear₁ : Clear w₁ (10 * n) (6 * n)
+    clear₁ = within-clear within₁ (10 * n) (6 * n) (omega arith) clear₀
+
+    module _ {w₂ : List ℕ} (e₂ : w₂ ≡ over w₁ (4 * n) (column (coreBit g) n)) where
+      within₂ : Within (5 * n) w₀ w₂
+      within₂ = rw e₂ (within-over (within-more within₁ (5 * n) (omega arith)) (4 * n) (column (coreBit g) n) (omega (arith, length-numbers (coreBit g) n)) (omega (arith, h₀)))
+
+      pub cored₂ : Cored g k w₂
+      cored₂ = rw e₂ (cored g arranged₁ n f (omega (arith, h₀, within₁ .size)))
+
+      pub clear₂ : Clear w₂ (10 * n) (3 * n)
+      clear₂ = clear-within w₂ (10 * n) (6 * n) (10 * n) (3 * n) (within-clear within₂ (10 * n) (6 * n) (omega arith) clear₀) (omega arith) (omega arith)
+
+      pub prepared₃ : {w₃ : List ℕ} → w₃ ≡ over (over w₂ (5 * n) (column (treeWord g) k)) (16 * n) (forestTo g k) → 16 * n ≤ length w₃ → Prepared ps v n k w₃
+      prepared₃ e₃ h₃ = record { ready = r; grown = rw e₃ (grown cored₂ f (omega (arith, h₀, within₂ .size))); few = words-count g (ready-lawful r) (cored₂ .cells) n f; room = h₃ }
 
 module _ {ps : List ℤ} {v : ValidParams} {n k : ℕ} {w : List ℕ} (p : Prepared ps v n k w) where
   -- the same by the number of cells

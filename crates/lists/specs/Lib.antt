@@ -6,6 +6,9 @@ pub mod OrderLaws
 pub mod GroupLaws
 pub mod WordLaws
 pub mod PartLaws
+pub mod Within
 pub mod LoopLaws
 pub mod Chains
 pub mod PermLaws
+pub mod Buckets
+pub mod BucketLaws

@@ -1,17 +1,20 @@
--- Loops: a search, the words of a part that pass a test counted, a sum over numbers that may stop early, a column that is filled, what passes a test gathered.
-use mathlib.Core.Path.{_≡_, refl, sym, ap, ap₂, _∙_}
-use mathlib.Core.Bool.{Bool, true, false, cond}
+-- Loops: a search, the lowest that passes a test, the words of a part that pass a test counted, a sum over numbers that may stop early, a column that is filled, what passes a test gathered.
+use mathlib.Core.Path.{_≡_, refl, sym, ap, ap₂, _∙_, subst}
+use mathlib.Core.Logic.{_⊎_, inl, inr}
+use mathlib.Core.Bool.{Bool, true, false, _&&_, cond}
 use mathlib.Core.List.{List, [], _∷_, _++_, append-nil}
 use Prim.Native.Nat.{ℕ, suc, _+_, _-_, _<_, _≤_}
 use native.Mathlib.Omega.{arith}
+use native.Mathlib.Nat.{le-of-lt}
 use native.Mathlib.Numerals.{add-one}
-use lib.Dec.{leb, leb→le, le→leb}
-use lib.ListN.{length, getD, set, length-append}
-use Rattle.lists.specs.Lists.{from, numbers, keep, howMany, total, headOr}
+use lib.Dec.{T, leb, leb→le, le→leb}
+use lib.ListN.{length, drop, getD, set, length-append}
+use lib.Seq.{drop-cons, drop-length}
+use Rattle.lists.specs.Lists.{from, numbers, keep, howMany, total, headOr, In}
 use Rattle.lists.specs.Words.{over, part, column, rest}
-use Rattle.lists.specs.ListLaws.{T-true, T-false, length-numbers}
-use Rattle.lists.specs.CountLaws.{howMany-cons}
-use Rattle.lists.specs.OrderLaws.{kept-snoc, kept-le}
+use Rattle.lists.specs.ListLaws.{true-T, T-true, T-false, and-left, and-right, and-both, keep-in, in-keep, at-in, head-in, numbers-in, in-numbers, length-numbers}
+use Rattle.lists.specs.CountLaws.{keep-none, howMany-cons}
+use Rattle.lists.specs.OrderLaws.{kept-snoc, kept-le, numbers-ascending, keep-ascending, head-lowest}
 use Rattle.lists.specs.WordLaws.{over-length, over-nil, over-snoc}
 use Rattle.lists.specs.PartLaws.{part-under, part-first, column-snoc, column-part}
 
@@ -52,6 +55,60 @@ module _ (f : ℕ → Bool) (n d : ℕ) where
 
     pub search-end : n ≤ j → d ≡ first
     search-end h = ap (λ (l : List ℕ). headOr d (keep f l)) (sym (rest-end n j h)) ∙ c .left
+
+-- ---- the lowest of xs that passes f: b is that of the first j, d if there is none
+pub record Lowest (f : ℕ → Bool) (d : ℕ) (xs : List ℕ) (b j : ℕ) : Type 0 where
+  pub high : j ≤ length xs
+  pub found : (b ≡ d) ⊎ (In b xs × T (f b))
+  pub least : (x : ℕ) → In x xs → T (f x) → (b ≤ x) ⊎ In x (drop j xs)
+
+pub lowest-start : (f : ℕ → Bool) (d : ℕ) (xs : List ℕ) → Lowest f d xs d 0
+lowest-start f d xs = record { high = omega arith; found = inl refl; least = λ x i t. inr i }
+
+module _ {f : ℕ → Bool} {d : ℕ} {xs : List ℕ} {b j : ℕ} (s : Lowest f d xs b j) where
+  module _ (h : j < length xs) {x : ℕ} (e : x ≡ getD xs j 0) where
+    least-next : (a : ℕ) → a ≤ b → (T (f x) → a ≤ x) → (y : ℕ) → In y xs → T (f y) → (a ≤ y) ⊎ In y (drop (j + 1) xs)
+    least-next a l m y i t = elim (s .least y i t) [ inl q ↦ inl (omega arith) | inr k ↦ next (subst (In y) (drop-cons xs j 0 h) k) ]
+      where
+        next : In y (getD xs j 0 ∷ drop (suc j) xs) → (a ≤ y) ⊎ In y (drop (j + 1) xs)
+        next (inl q) = inl (omega (arith, m (subst (λ (z : ℕ). T (f z)) (q ∙ sym e) t)))
+        next (inr k) = inr (subst (λ (z : ℕ). In y (drop z xs)) (sym (add-one j)) k)
+
+    pub lowest-same : (T (f x) → b ≤ x) → Lowest f d xs b (j + 1)
+    lowest-same m = record { high = omega arith; found = s .found; least = least-next b (omega arith) m }
+
+    pub lowest-less : x < b → f x ≡ true → Lowest f d xs x (j + 1)
+    lowest-less l t = record {
+      high = omega arith;
+      found = inr (subst (λ (z : ℕ). In z xs) (sym e) (at-in 0 xs j h), true-T t);
+      least = least-next x (omega arith) (λ u. omega arith);
+    }
+
+  -- where xs has numbers below d that pass g, in any order, and all of them that pass f too
+  module _ (l : length xs ≤ j) (g : ℕ → Bool) (sound : (x : ℕ) → In x xs → (x < d) × T (g x)) (complete : (x : ℕ) → x < d → T (g x) → T (f x) → In x xs) where
+    abbrev both : ℕ → Bool
+    both x = g x && f x
+
+    all : drop j xs ≡ []
+    all = let e : j ≡ length xs = omega (arith, s .high) in ap (λ (z : ℕ). drop z xs) e ∙ drop-length xs
+
+    lower : (x : ℕ) → In x (numbers d) → T (both x) → b ≤ x
+    lower x i t =
+        let u = and-right (g x) (f x) t in
+        elim (s .least x (complete x (in-numbers d x i) (and-left (g x) (f x) t) u) u) [ inl q ↦ q | inr k ↦ absurd (subst (In x) all k) ]
+
+    pub lowest-end : (b ≡ headOr d (keep both (numbers d))) × (b ≤ d)
+    lowest-end = elim (s .found) [ inl e ↦ (none e, omega arith) | inr p ↦ let q = sound b (p .0) in (some q (p .1), le-of-lt (q .0)) ]
+      where
+        none : b ≡ d → b ≡ headOr d (keep both (numbers d))
+        none e = e ∙ ap (headOr d) (sym (keep-none both (numbers d) (λ x i t. omega (arith, lower x i t, in-numbers d x i))))
+
+        some : (b < d) × T (g b) → T (f b) → b ≡ headOr d (keep both (numbers d))
+        some q t =
+            let ys = keep both (numbers d) in
+            let i = keep-in both b (numbers d) (numbers-in d b (q .0)) (and-both (g b) (f b) (q .1) t) in
+            let z = in-keep both (headOr d ys) (numbers d) (head-in d b ys i) in
+            omega (arith, lower (headOr d ys) (z .0) (z .1), head-lowest d ys (keep-ascending both (numbers d) (numbers-ascending d)) b i)
 
 -- ---- the words from place p to the end: `all` of those from the start on pass f, and m of those before p
 pub record Scan (f : ℕ → Bool) (w : List ℕ) (base end all m p : ℕ) : Type 0 where

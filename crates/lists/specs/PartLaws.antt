@@ -1,18 +1,20 @@
 -- Laws of the words of a slice: a part of it, and what is read below, at and above what was laid.
 use mathlib.Core.Path.{_≡_, sym, ap, ap₂, _∙_}
+use mathlib.Core.Logic.{_⊎_, inl, inr}
 use mathlib.Core.List.{List, [], _∷_, _++_, map, append-assoc, map-append}
 use Prim.Native.Nat.{ℕ, zero, suc, _+_, _-_, _<_, _≤_}
 use native.Mathlib.Omega.{arith}
 use native.Mathlib.Nat.{le-refl, zero-add}
 use native.Mathlib.Numerals.{add-one}
-use lib.ListN.{length, take, drop, getD, set, replicate, length-drop, length-replicate, getD-replicate, List·getD-append}
+use native.Mathlib.Decide.{ℕ-discrete}
+use lib.ListN.{length, take, drop, getD, set, replicate, length-set, length-drop, length-replicate, getD-replicate, List·getD-append}
 use lib.Seq.{getD-drop, getD-take, drop-drop, drop-at, take-at, drop-cons, length-take-le, take-append-le, take-take, take-add, take-nil, ext-getD, slice}
-use lib.Seq.{set-append-left, take-set-lt, drop-set-lt, drop-append-add, drop-append-seam}
+use lib.Seq.{getD-set-same, getD-set-other, set-append-left, take-set-lt, drop-set-lt, drop-append-add, drop-append-seam}
 use Rattle.lists.specs.Lists.{numbers, Below}
 use Rattle.lists.specs.Words.{over, part, column, Clear}
 use Rattle.lists.specs.ListLaws.{at-numbers, length-numbers}
 use Rattle.lists.specs.OrderLaws.{numbers-snoc, below-at}
-use Rattle.lists.specs.WordLaws.{front-length, over-self}
+use Rattle.lists.specs.WordLaws.{front-length, over-self, set-over}
 
 module _ {A : Type 0} where
   pub part-length : (xs : List A) (a n : ℕ) → a + n ≤ length xs → length (part xs a n) ≡ n
@@ -83,6 +85,11 @@ module _ {A : Type 0} where
       ∙ ap (take n) (sym (drop-drop (length us) a (over xs a (us ++ vs))) ∙ ap (drop (length us)) (drop-laid xs a (us ++ vs) h ∙ append-assoc us vs D) ∙ drop-append-seam us (vs ++ D))
       ∙ take-at vs D n e
 
+  -- ---- a store beside a part
+  pub part-set : (xs : List A) (a n p : ℕ) (x : A) → p < length xs → (p < a) ⊎ (a + n ≤ p) → part (set xs p x) a n ≡ part xs a n
+  part-set xs a n p x h (inl l) = ap (λ (z : List A). part z a n) (set-over xs p x h) ∙ part-above xs a n p (x ∷ []) (omega arith) (omega arith)
+  part-set xs a n p x h (inr l) = ap (λ (z : List A). part z a n) (set-over xs p x h) ∙ part-under xs a n p (x ∷ []) l (omega arith)
+
   -- ---- columns
   pub column-snoc : (h : ℕ → A) (n : ℕ) → column h (n + 1) ≡ column h n ++ (h n ∷ [])
   column-snoc h n = ap (map h) (numbers-snoc n) ∙ map-append h (numbers n) (n ∷ [])
@@ -126,6 +133,16 @@ part-snoc xs a n h = part-add xs a n 1 ∙ ap (λ (r : List ℕ). part xs a n ++
 pub column-part : (xs : List ℕ) (a n : ℕ) → a + n ≤ length xs → column (λ i. getD xs (a + i) 0) n ≡ part xs a n
 column-part xs a n h = ext-getD 0 (column (λ i. getD xs (a + i) 0) n) (part xs a n) (length-numbers (λ i. getD xs (a + i) 0) n ∙ sym (part-length xs a n h))
     (λ i k. let j : i < n = omega (arith, length-numbers (λ i. getD xs (a + i) 0) n) in at-numbers (λ i. getD xs (a + i) 0) 0 n i j ∙ sym (part-at xs a n i j))
+
+-- one entry of a column changes
+pub column-set : (h k : ℕ → ℕ) (n c : ℕ) → c < n → ((d : ℕ) → d < n → (d ≡ c → ⊥) → h d ≡ k d) → set (column h n) c (k c) ≡ column k n
+column-set h k n c l e = ext-getD 0 (set (column h n) c (k c)) (column k n) (length-set (column h n) c (k c) ∙ length-numbers h n ∙ sym (length-numbers k n)) (λ d m. at d (omega (arith, length-set (column h n) c (k c), length-numbers h n)))
+  where
+    at : (d : ℕ) → d < n → getD (set (column h n) c (k c)) d 0 ≡ getD (column k n) d 0
+    at d m = elim (ℕ-discrete d c) [
+      | yes p ↦ ap (λ (j : ℕ). getD (set (column h n) c (k c)) j 0) p ∙ getD-set-same (column h n) c (k c) 0 (omega (arith, length-numbers h n)) ∙ sym (ap (λ (j : ℕ). getD (column k n) j 0) p ∙ at-numbers k 0 n c l)
+      | no p ↦ getD-set-other (column h n) c d (k c) 0 p ∙ at-numbers h 0 n d m ∙ e d m p ∙ sym (at-numbers k 0 n d m)
+    ]
 
 -- a part that holds a column
 pub holds-at : (xs : List ℕ) (a n : ℕ) (h : ℕ → ℕ) (i : ℕ) → part xs a n ≡ column h n → i < n → getD xs (a + i) 0 ≡ h i

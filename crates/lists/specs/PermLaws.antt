@@ -2,8 +2,9 @@
 use mathlib.Core.Path.{_≡_, refl, ap, ap₂, _∙_}
 use mathlib.Core.Logic.{inl, inr, _↔_}
 use mathlib.Core.List.{List, List·Permᴰ, List·Permᴰ·nil, List·Permᴰ·cons, List·Permᴰ·swap, List·Permᴰ·trans, Permᴰ·symm}
-use Prim.Native.Nat.{ℕ, _+_}
+use Prim.Native.Nat.{ℕ, suc, _+_}
 use native.Mathlib.Omega.{arith}
+use lib.ListN.{length}
 use Rattle.lists.specs.Lists.{total, In}
 
 module _ {A : Type 0} where
@@ -26,3 +27,10 @@ module _ {A : Type 0} where
   perm-total f (List·Permᴰ·cons e p) = ap₂ _+_ (ap f e) (perm-total f p)
   perm-total f (List·Permᴰ·swap d e) = omega (arith, ap f d, ap f e)
   perm-total f (List·Permᴰ·trans p q) = perm-total f p ∙ perm-total f q
+
+  -- the same length
+  pub perm-length : {xs ys : List A} → List·Permᴰ xs ys → length xs ≡ length ys
+  perm-length List·Permᴰ·nil = refl
+  perm-length (List·Permᴰ·cons e p) = ap suc (perm-length p)
+  perm-length (List·Permᴰ·swap d e) = refl
+  perm-length (List·Permᴰ·trans p q) = perm-length p ∙ perm-length q

@@ -4,10 +4,10 @@ use mathlib.Core.Path.{_≡_, refl, sym, ap, ap₂, subst, _∙_}
 use mathlib.Core.List.{List, [], _∷_, _++_, append-assoc, append-nil}
 use Prim.Native.Nat.{ℕ, suc, _+_, _<_, _≤_}
 use native.Mathlib.Omega.{arith}
-use native.Mathlib.Nat.{add-zero}
+use native.Mathlib.Nat.{add-zero, zero-add}
 use native.Mathlib.Numerals.{add-one}
-use lib.ListN.{length, take, drop, getD, set, length-append, length-drop, take-append-drop}
-use lib.Seq.{drop-drop, drop-at, take-at, set-at, drop-cons, length-take-le, take-suc, drop-length}
+use lib.ListN.{length, take, drop, getD, set, length-set, length-append, length-drop, take-append-drop}
+use lib.Seq.{drop-drop, drop-at, take-at, set-at, set-append-left, drop-cons, length-take-le, take-suc, drop-length}
 use Rattle.lists.specs.Words.{over, part}
 
 module _ {A : Type 0} where
@@ -141,6 +141,32 @@ module _ {A : Type 0} where
   -- a store is one word laid
   pub set-over : (xs : List A) (a : ℕ) (x : A) → a < length xs → set xs a x ≡ over xs a (x ∷ [])
   set-over xs a x h = ap (λ (z : List A). set z a x) (sym (over-nil xs a)) ∙ over-snoc xs a a [] x (sym (add-zero a)) h
+
+  set-after : (xs ys : List A) (j : ℕ) (x : A) → set (xs ++ ys) (length xs + j) x ≡ xs ++ set ys j x
+  set-after [] ys j x = ap (λ (k : ℕ). set ys k x) (zero-add j)
+  set-after (y ∷ xs) ys j x =
+      let e : suc (length xs) + j ≡ suc (length xs + j) = omega arith in
+      ap (λ (k : ℕ). set (y ∷ (xs ++ ys)) k x) e ∙ ap (λ (r : List A). y ∷ r) (set-after xs ys j x)
+
+  -- a store into what was laid
+  pub set-laid : (xs : List A) (a : ℕ) (us : List A) (j : ℕ) (x : A) → a ≤ length xs → j < length us → set (over xs a us) (a + j) x ≡ over xs a (set us j x)
+  set-laid xs a us j x h k =
+      let t : List A = take a xs in
+      let e : a + j ≡ length t + j = omega (arith, length-take-le a xs h) in
+      ap (λ (m : ℕ). set (over xs a us) m x) e
+      ∙ set-append-left (t ++ us) (drop (a + length us) xs) (length t + j) x (omega (arith, length-append t us))
+      ∙ ap₂ (λ (z : List A) (m : ℕ). z ++ drop (a + m) xs) (set-after t us j x) (sym (length-set us j x))
+
+  -- words laid again, with others between that lie below
+  pub over-late : (xs : List A) (a b : ℕ) (us vs ws : List A) → a + length vs ≤ b → b + length us ≤ length xs → length ws ≡ length us → over (over (over xs b us) a vs) b ws ≡ over (over xs a vs) b ws
+  over-late xs a b us vs ws h k e =
+      ap (λ (z : List A). over z b ws) (sym (over-apart xs a b vs us h k))
+      ∙ over-again (over xs a vs) b us ws (omega (arith, over-length xs a vs (omega arith))) e
+
+  -- two words, stored anywhere
+  pub two-sets : (xs : List A) (a b : ℕ) (x y : A) → a < length xs → b < length xs → set (set xs a x) b y ≡ over (over xs a (x ∷ [])) b (y ∷ [])
+  two-sets xs a b x y h k =
+      ap (λ (z : List A). set z b y) (set-over xs a x h) ∙ set-over (over xs a (x ∷ [])) b y (omega (arith, over-length xs a (x ∷ []) (omega arith)))
 
   -- four words, stored one by one
   pub four-sets : (xs : List A) (at : ℕ) (a b c d : A) → at + 4 ≤ length xs → set (set (set (set xs at a) (at + 1) b) (at + 2) c) (at + 3) d ≡ over xs at (a ∷ b ∷ c ∷ d ∷ [])

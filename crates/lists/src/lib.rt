@@ -5,6 +5,8 @@ ghost use Prim.Native.Nat.{_+_, _<_, _≤_};
 ghost use lib.ListN.{length, getD, replicate};
 ghost use Rattle.lists.specs.Words.{over, part};
 
+pub mod buckets;
+
 // A number of the work memory.
 pub type Word = u16;
 

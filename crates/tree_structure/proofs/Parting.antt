@@ -132,3 +132,7 @@ module _ (f : ℕ → Bool) (w : List ℕ) (scratch from m : ℕ) (apart : from 
       ∙ over-again Y scratch Lost N (omega (arith, ly)) (z ∙ sym n)
       ∙ clear-over Y scratch (m - k) (omega (arith, ly))
       (clear-after w scratch (m - k) from (Kept ++ Lost) (omega arith) (omega (arith, length-append Kept Lost, parted)) (λ i h. clear i (omega arith)))
+
+-- of no frames none is moved
+pub parted-none : (f : ℕ → Bool) (w : List ℕ) (from m : ℕ) → m ≡ 0 → ((0 ≤ m) × (0 ≡ length (keep f (part w from m)))) × (w ≡ over w from (keep f (part w from m) ++ lose f (part w from m)))
+parted-none f w from m e = rw e ((omega arith, refl), sym (over-nil w from))

@@ -1,5 +1,5 @@
 // The counting tree of a cell in words of one lent slice (TreeStructure of the source): built from a list of frames, and asked for the count of a frame.
-// `v` has the settings, `n` is the number of frames; `left` is the number of levels below a node of the level `level`.
+// `v` has the settings, `n` is the number of frames; `left` is the number of levels below a node of the level `level`, whose boxes have the side `side`.
 use counting_tree::IntersectionType;
 use hyperparams::ValidParams;
 use lists::Word;
@@ -10,6 +10,7 @@ ghost use lib.ListN.{length, getD};
 ghost use Rattle.lists.specs.Lists.{keep, lose, Below};
 ghost use Rattle.lists.specs.Words.{over, part, Clear};
 ghost use Rattle.hyperparams.specs.Params.{maxFrames, levels};
+ghost use Rattle.counting_tree.specs.Grid.{sideAt};
 ghost use Rattle.counting_tree.specs.Tree.{counted, firstOf};
 ghost use Rattle.counting_tree.specs.Ready.{geometryAt, Ready};
 ghost use Rattle.tree_structure.specs.Encode.{size, encode, TreeAt, TreesAt, toldOf};
@@ -51,18 +52,20 @@ fn spread(
     m: usize,
     pivot: usize,
     level: usize,
+    side: f64,
 ) -> usize
-    requires { ⌜ Ready (now points) v n × (pivot < n) × (level ≤ levels (v .s)) × Below n (part (now work) from m) ⌝ }
+    requires { ⌜ Ready (now points) v n × (pivot < n) × (level ≤ levels (v .s)) × Below n (part (now work) from m) × (side ≡ sideAt (v .channels) (v .tolerance) level) ⌝ }
     requires { ⌜ (from + m ≤ scratch) × (scratch + m ≤ length (now work)) ⌝ }
     ensures { λ r. ⌜ (let f = geometryAt v n (now (points .entry)) .same level pivot in (r ≤ m) × (r ≡ length (keep f (part (now (work .entry)) from m)))) ⌝ }
     ensures { λ _. ⌜ (let f = geometryAt v n (now (points .entry)) .same level pivot in let xs = part (now (work .entry)) from m in now (work .exit) ≡ over (over (now (work .entry)) from (keep f xs)) scratch (lose f xs)) ⌝ }
 {
+    let at = counting_tree::points::indexes_at(points, v, n, side, pivot);
     let mut kept = 0;
     let mut lost = 0;
     let mut i = 0;
     while i < m {
         let x = work[from + i];
-        if counting_tree::points::same_box(points, v, n, level, pivot, lists::wide(x)) {
+        if counting_tree::points::has_indexes(points, v, n, side, at, lists::wide(x)) {
             work[from + kept] = x;
             kept += 1;
             i += 1;
@@ -86,13 +89,17 @@ fn partition(
     m: usize,
     pivot: usize,
     level: usize,
+    side: f64,
 ) -> usize
-    requires { ⌜ Ready (now points) v n × (pivot < n) × (level ≤ levels (v .s)) × Below n (part (now work) from m) ⌝ }
+    requires { ⌜ Ready (now points) v n × (pivot < n) × (level ≤ levels (v .s)) × Below n (part (now work) from m) × (side ≡ sideAt (v .channels) (v .tolerance) level) ⌝ }
     requires { ⌜ (from + m ≤ scratch) × (scratch + m ≤ length (now work)) × Clear (now work) scratch m ⌝ }
     ensures { λ r. ⌜ (let f = geometryAt v n (now (points .entry)) .same level pivot in (r ≤ m) × (r ≡ length (keep f (part (now (work .entry)) from m)))) ⌝ }
     ensures { λ _. ⌜ (let f = geometryAt v n (now (points .entry)) .same level pivot in let xs = part (now (work .entry)) from m in now (work .exit) ≡ over (now (work .entry)) from (keep f xs ++ lose f xs)) ⌝ }
 {
-    let kept = spread(points, v, n, work, scratch, from, m, pivot, level);
+    if m == 0 {
+        return 0;
+    }
+    let kept = spread(points, v, n, work, scratch, from, m, pivot, level, side);
     lists::copy_words(work, scratch, from + kept, m - kept);
     lists::clear_words(work, scratch, m - kept);
     kept
@@ -110,8 +117,9 @@ fn build_node(
     at: usize,
     left: usize,
     level: usize,
+    side: f64,
 ) -> usize
-    requires { ⌜ Ready (now points) v n × (level + left ≤ levels (v .s)) ⌝ }
+    requires { ⌜ Ready (now points) v n × (level + left ≤ levels (v .s)) × (side ≡ sideAt (v .channels) (v .tolerance) level) ⌝ }
     requires { ⌜ NodeRoom (geometryAt v n (now points) .same) n (now work) scratch lo m at left level ⌝ }
     ensures { λ r. ⌜ BuiltNode (geometryAt v n (now (points .entry)) .same) (now (work .entry)) lo m at left level (now (work .exit)) r ⌝ }
 {
@@ -131,6 +139,7 @@ fn build_node(
         at + 4,
         left - 1,
         level + 1,
+        counting_tree::grid::half_side(side),
     );
     write_node(work, at, m, (next - at) / 4, first);
     next
@@ -148,8 +157,9 @@ fn build_groups(
     at: usize,
     left: usize,
     level: usize,
+    side: f64,
 ) -> usize
-    requires { ⌜ Ready (now points) v n × (level + left ≤ levels (v .s)) ⌝ }
+    requires { ⌜ Ready (now points) v n × (level + left ≤ levels (v .s)) × (side ≡ sideAt (v .channels) (v .tolerance) level) ⌝ }
     requires { ⌜ GroupsRoom (geometryAt v n (now points) .same) n (now work) scratch lo m at left level ⌝ }
     ensures { λ r. ⌜ BuiltGroups (geometryAt v n (now (points .entry)) .same) (now (work .entry)) lo m at left level (now (work .exit)) r ⌝ }
 {
@@ -158,8 +168,32 @@ fn build_groups(
     let mut next = at;
     while rest > 0 {
         let head = lists::wide(work[from]);
-        let count = 1 + partition(points, v, n, work, scratch, from + 1, rest - 1, head, level);
-        next = build_node(points, v, n, work, scratch, from, count, next, left, level);
+        let kept = partition(
+            points,
+            v,
+            n,
+            work,
+            scratch,
+            from + 1,
+            rest - 1,
+            head,
+            level,
+            side,
+        );
+        let count = 1 + kept;
+        next = build_node(
+            points,
+            v,
+            n,
+            work,
+            scratch,
+            from,
+            count,
+            next,
+            left,
+            level,
+            side,
+        );
         from += count;
         rest -= count;
     }
@@ -185,7 +219,8 @@ pub fn build_structure(
 {
     let m = hi - lo;
     lists::copy_words(work, lo, copy, m);
-    let next = build_node(points, v, n, work, scratch, copy, m, at, 1 + v.s, 0);
+    let side = counting_tree::grid::base_side(v.tolerance, v.channels);
+    let next = build_node(points, v, n, work, scratch, copy, m, at, 1 + v.s, 0, side);
     lists::clear_words(work, copy, m);
     next
 }
@@ -200,14 +235,15 @@ fn count_node(
     at: usize,
     left: usize,
     level: usize,
+    side: f64,
 ) -> Counted
-    requires { ⌜ Ready (now points) v n × (q < n) × (level + left ≤ levels (v .s)) ⌝ }
+    requires { ⌜ Ready (now points) v n × (q < n) × (level + left ≤ levels (v .s)) × (side ≡ sideAt (v .channels) (v .tolerance) level) ⌝ }
     requires { ⌜ ((xs : List ℕ) × TreeAt (geometryAt v n (now points) .same) n (now work) at left level xs) ⌝ }
     ensures { λ r. ⌜ (let g = geometryAt v n (now (points .entry)) in (xs : List ℕ) → TreeAt (g .same) n (now (work .entry)) at left level xs → r ≡ toldOf (counted (g .same) (g .box q) left level xs)) ⌝ }
 {
     let count = lists::word(work, at);
     let first = lists::word(work, at + 2);
-    match counting_tree::points::classify(points, v, n, q, level, first) {
+    match counting_tree::points::classify(points, v, n, q, side, first) {
         IntersectionType::Disjoint => Counted { count: 0, first: 0 },
         IntersectionType::FullyCovered => Counted { count, first },
         IntersectionType::Intersecting => {
@@ -224,6 +260,7 @@ fn count_node(
                     past(work, at),
                     left - 1,
                     level + 1,
+                    counting_tree::grid::half_side(side),
                 )
             }
         }
@@ -241,18 +278,30 @@ fn count_list(
     end: usize,
     left: usize,
     level: usize,
+    side: f64,
 ) -> Counted
-    requires { ⌜ Ready (now points) v n × (q < n) × (level + left ≤ levels (v .s)) ⌝ }
+    requires { ⌜ Ready (now points) v n × (q < n) × (level + left ≤ levels (v .s)) × (side ≡ sideAt (v .channels) (v .tolerance) level) ⌝ }
     requires { ⌜ ((gs : List (List ℕ)) × TreesAt (geometryAt v n (now points) .same) n (now work) at end left level gs) ⌝ }
     ensures { λ r. ⌜ (let g = geometryAt v n (now (points .entry)) in (gs : List (List ℕ)) → TreesAt (g .same) n (now (work .entry)) at end left level gs → r ≡ toldOf (firstOf (counted (g .same) (g .box q) left level) gs)) ⌝ }
 {
     if at == end {
         return Counted { count: 0, first: 0 };
     }
-    let r = count_node(points, v, n, work, q, at, left, level);
+    let r = count_node(points, v, n, work, q, at, left, level, side);
     let count = r.count;
     if count == 0 {
-        count_list(points, v, n, work, q, past(work, at), end, left, level)
+        count_list(
+            points,
+            v,
+            n,
+            work,
+            q,
+            past(work, at),
+            end,
+            left,
+            level,
+            side,
+        )
     } else {
         r
     }
@@ -271,5 +320,6 @@ pub fn approximate_range_counting(
     requires { ⌜ ((xs : List ℕ) × TreeAt (geometryAt v n (now points) .same) n (now work) at (geometryAt v n (now points) .levels) 0 xs) ⌝ }
     ensures { λ r. ⌜ (let g = geometryAt v n (now (points .entry)) in (xs : List ℕ) → TreeAt (g .same) n (now (work .entry)) at (g .levels) 0 xs → r ≡ toldOf (counted (g .same) (g .box q) (g .levels) 0 xs)) ⌝ }
 {
-    count_node(points, v, n, work, q, at, 1 + v.s, 0)
+    let side = counting_tree::grid::base_side(v.tolerance, v.channels);
+    count_node(points, v, n, work, q, at, 1 + v.s, 0, side)
 }

@@ -1,17 +1,19 @@
 -- `fill_work` meets its contract.
 use borrow.Author.Needs.{needs}
-use Rattle.appx_dbscan.proofs.Phases.{arranged₁, cored₂, clear₂, grown₃, filled₄}
+use Rattle.appx_dbscan.proofs.Phases.{few-clear, arranged₁, clear₁, cored₂, clear₂, grown₃, clear₃, filled₄}
 use Rattle.appx_dbscan.proofs.fill_work.Statement.{statement}
 use Rattle.appx_dbscan.proofs.fill_work.Tie as tie
 
 populate-requires : tie.Need-populate-requires
-populate-requires c κs = search needs
+populate-requires c κs =
+    let st = c .before .before in
+    (st .pre .0, search needs, few-clear (st .args .n) (st .args .work .now) (st .pre .2))
 
 label-points-requires : tie.Need-label-points-requires
 label-points-requires c κs =
     let r = c .before .before .before .before .before .before .pre in
     let w = c .before .before .before .before .before .before .args .work .now in
-    (r .0, arranged₁ (r .0) w (r .1) (c .before .before .before .populate .ensures .0) (c .before .before .before .populate .ensures .1), search needs)
+    (r .0, arranged₁ (r .0) w (r .1) (c .before .before .before .populate .ensures .0) (c .before .before .before .populate .ensures .1), search needs, clear₁ (r .0) w (r .1) (c .before .before .before .populate .ensures .0) (c .before .before .before .populate .ensures .1) (r .2))
 
 build-trees-requires : tie.Need-build-trees-requires
 build-trees-requires c κs =
@@ -26,7 +28,9 @@ label-requires c κs =
     let r = c .before .before .before .before .before .before .before .before .before .before .before .before .before .before .pre in
     let w = c .before .before .before .before .before .before .before .before .before .before .before .before .before .before .args .work .now in
     let p = c .before .before .before .before .before .before .before .before .before .before .before .populate .ensures in
-    (r .0, grown₃ (r .0) w (r .1) (p .0) (p .1) (c .before .before .before .before .before .before .before .label-points .ensures) (c .before .before .before .build-trees .ensures), search needs)
+    let e₂ = c .before .before .before .before .before .before .before .label-points .ensures in
+    let e₃ = c .before .before .before .build-trees .ensures in
+    (r .0, grown₃ (r .0) w (r .1) (p .0) (p .1) e₂ e₃, search needs, clear₃ (r .0) w (r .1) (p .0) (p .1) e₂ e₃ (r .2))
 
 same-length : tie.Need-same-length
 same-length c = search needs

@@ -5,6 +5,7 @@ use Prim.Native.Nat.{_+_, _*_, ℕ, _<_}
 use native.Mathlib.Omega.{arith}
 use native.Mathlib.Nat.{pos-of-ne-zero}
 use Rattle.counting_tree.specs.Ready.{geometryAt}
+use Rattle.counting_tree.specs.Indexes.{next-side}
 use Rattle.tree_structure.proofs.Building.{frames-fit, scratch-fit, node-room, node-last, below-can, node-after, node-most, node-more, first-below, others-below, node-can, Building, building-start, building-step, building-end}
 use Rattle.tree_structure.proofs.Levels.{few-levels}
 use borrow.Fn.Kinds.{In}
@@ -15,6 +16,7 @@ use Rattle.tree_structure.proofs.+build_groups+build_node.Lts-build_gro
 use Rattle.tree_structure.proofs.build_node.Reads as build-node
 use Rattle.tree_structure.proofs.build_node.Kinds as build-node-kinds
 use Rattle.tree_structure.proofs.+build_groups+build_node.Lts-build_node as build-node-lts
+use Rattle.counting_tree.proofs.grid.half_side.Reads as half-side-reads
 use Rattle.tree_structure.proofs.partition.Reads as partition-reads
 use Rattle.lists.proofs.wide.Reads as wide-reads
 use Rattle.tree_structure.proofs.write_node.Reads as write-node-reads
@@ -48,10 +50,10 @@ build-node-below t =
     and 2 build-node-kinds.ps (falls 2 build-node-kinds.ps _<_ μ-build-node t) build-node.Pre
 
 abbrev build-groups-Inv-loop : build-groups-lts.InvT-loop
-build-groups-Inv-loop points v n work₀ scratch lo m at left level from₀ rest₀ next₀ work from rest next = Building (geometryAt v n points .same) n work₀ scratch lo m at left level work from rest next
+build-groups-Inv-loop points v n work₀ scratch lo m at left level side from₀ rest₀ next₀ work from rest next = Building (geometryAt v n points .same) n work₀ scratch lo m at left level work from rest next
 
 abbrev build-groups-μ-loop : build-groups-lts.MeasureT-loop
-build-groups-μ-loop points v n work₀ scratch lo m at left level from₀ rest₀ next₀ work from rest next = rest
+build-groups-μ-loop points v n work₀ scratch lo m at left level side from₀ rest₀ next₀ work from rest next = rest
 
 -- what is known of the functions that `build_groups` calls
 abbrev groups-calls : ℕ → build-groups-lts.Claims
@@ -80,7 +82,7 @@ build-groups-partition-requires t c κs =
     let p = c .before .before .before .before .before .before .pre .1 .0 in
     let r = c .before .before .before .before .loop .inv .can in
     let h = c .before .before .before .loop-test .taken in (
-      (p .0, omega (arith, c .before .wide .ensures, first-below r h), omega (arith, p .1), others-below r h),
+      (p .0, omega (arith, c .before .wide .ensures, first-below r h), omega (arith, p .1), others-below r h, p .2),
       (omega (arith, r .here .before), omega (arith, scratch-fit (r .here)), λ i g. r .here .clear i (omega arith)),
     )
 
@@ -115,7 +117,7 @@ build-groups-returns t c = building-end (c .before .loop .inv) (c .loop-test .le
 
 -- what is known of the functions that `build_node` calls
 abbrev node-calls : ℕ → build-node-lts.Claims
-node-calls t = (write-node-reads.Asked, write-node-reads.Learnt, build-groups-below t, build-groups.Post)
+node-calls t = (write-node-reads.Asked, write-node-reads.Learnt, half-side-reads.Asked, half-side-reads.Learnt, build-groups-below t, build-groups.Post)
 
 build-node-mul-first : (t : ℕ) → build-node-lts.Need-mul-first (node-calls t) (build-node-at t) build-node.Post
 build-node-mul-first t c = omega (arith, frames-fit (c .before .pre .1 .1 .here), c .before .pre .1 .1 .some)
@@ -144,25 +146,28 @@ build-node-sub-build-groups t c = pos-of-ne-zero (c .before .if1 .left)
 build-node-add-build-groups-2 : (t : ℕ) → build-node-lts.Need-add-build-groups-2 (node-calls t) (build-node-at t) build-node.Post
 build-node-add-build-groups-2 t c = omega (arith, c .before .before .before .before .pre .1 .0 .1, few-levels (c .before .before .before .before .pre .1 .0 .0))
 
+build-node-half-side-requires : (t : ℕ) → build-node-lts.Need-half-side-requires (node-calls t) (build-node-at t) build-node.Post
+build-node-half-side-requires t c κs = search needs
+
 build-node-build-groups-requires : (t : ℕ) → build-node-lts.Need-build-groups-requires (node-calls t) (build-node-at t) build-node.Post
 build-node-build-groups-requires t c κs =
-    let p = c .before .before .before .before .pre in
-    let h = c .before .if1 .left in
-    (omega (arith, p .0, h), ((p .1 .0 .0, omega (arith, p .1 .0 .1, h)), below-can (p .1 .1) h))
+    let p = c .before .before .before .before .before .pre in
+    let h = c .before .before .if1 .left in
+    (omega (arith, p .0, h), ((p .1 .0 .0, omega (arith, p .1 .0 .1, h), next-side _ _ _ _ _ (p .1 .0 .2) (c .half-side .ensures)), below-can (p .1 .1) h))
 
 build-node-sub-write-node : (t : ℕ) → build-node-lts.Need-sub-write-node (node-calls t) (build-node-at t) build-node.Post
-build-node-sub-write-node t c = node-after (c .before .before .before .before .before .before .before .before .pre .1 .1) (c .before .before .before .before .before .if1 .left) (c .before .before .before .build-groups .ensures)
+build-node-sub-write-node t c = node-after (c .before .before .before .before .before .before .before .before .before .pre .1 .1) (c .before .before .before .before .before .before .if1 .left) (c .before .before .before .build-groups .ensures)
 
 build-node-write-node-requires-2 : (t : ℕ) → build-node-lts.Need-write-node-requires-2 (node-calls t) (build-node-at t) build-node.Post
 build-node-write-node-requires-2 t c κs =
-    let r = c .before .before .before .before .before .before .before .before .pre .1 .1 in
-    (omega (arith, node-room r, c .before .before .before .build-groups .kept .1 .1 .1 .0), r .here .few, node-most r (c .before .before .before .before .before .if1 .left) (c .before .before .before .build-groups .ensures))
+    let r = c .before .before .before .before .before .before .before .before .before .pre .1 .1 in
+    (omega (arith, node-room r, c .before .before .before .build-groups .kept .1 .1 .1 .0), r .here .few, node-most r (c .before .before .before .before .before .before .if1 .left) (c .before .before .before .build-groups .ensures))
 
 build-node-same-length-2 : (t : ℕ) → build-node-lts.Need-same-length-2 (node-calls t) (build-node-at t) build-node.Post
 build-node-same-length-2 t c = c .before .before .write-node2 .kept .0 ∙ c .before .before .before .before .before .before .build-groups .kept .1 .1 .1 .0
 
 build-node-returns-2 : (t : ℕ) → build-node-lts.Need-returns-2 (node-calls t) (build-node-at t) build-node.Post
-build-node-returns-2 t c = node-more (c .before .before .before .before .before .before .before .before .before .before .before .pre .1 .1) (c .before .before .before .before .before .before .before .before .if1 .left) (c .before .before .before .before .before .before .build-groups .ensures) _ _ refl (c .before .before .write-node2 .ensures)
+build-node-returns-2 t c = node-more (c .before .before .before .before .before .before .before .before .before .before .before .before .pre .1 .1) (c .before .before .before .before .before .before .before .before .before .if1 .left) (c .before .before .before .before .before .before .build-groups .ensures) _ _ refl (c .before .before .write-node2 .ensures)
 
 pub +build-groups+build-node-spec : {M : Type 1} → statement M
 +build-groups+build-node-spec = close μ-build-groups μ-build-node (λ t. build-groups-lts.spec (groups-calls t)
@@ -185,8 +190,7 @@ pub +build-groups+build-node-spec : {M : Type 1} → statement M
     (build-groups-loop-again t)
     (build-groups-same-length t)
     (build-groups-returns t))
-    λ t. build-node-lts.spec
-    (node-calls t)
+    λ t. build-node-lts.spec (node-calls t)
     (build-node-at t)
     build-node.Post
     (build-node-mul-first t)
@@ -198,6 +202,7 @@ pub +build-groups+build-node-spec : {M : Type 1} → statement M
     (build-node-add-build-groups t)
     (build-node-sub-build-groups t)
     (build-node-add-build-groups-2 t)
+    (build-node-half-side-requires t)
     (build-node-build-groups-requires t)
     (build-node-sub-write-node t)
     (build-node-write-node-requires-2 t)

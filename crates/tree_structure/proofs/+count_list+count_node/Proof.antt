@@ -8,6 +8,7 @@ use native.Mathlib.Nat.{pos-of-ne-zero}
 use denote.Ref.{now}
 use Rattle.counting_tree.specs.Tree.{firstOf, counted}
 use Rattle.counting_tree.specs.Ready.{geometryAt}
+use Rattle.counting_tree.specs.Indexes.{ready-side, box-level, next-side}
 use Rattle.tree_structure.proofs.Counting.{tree-room, tree-count, tree-first, tree-past, tree-ahead, tree-below, tree-children, tree-box, split, none, told, pass, stay, on-disjoint, on-covered, on-last, on-inner}
 use Rattle.tree_structure.proofs.Levels.{few-levels}
 use borrow.Fn.Kinds.{In}
@@ -19,6 +20,7 @@ use Rattle.tree_structure.proofs.count_node.Reads as count-node
 use Rattle.tree_structure.proofs.count_node.Kinds as count-node-kinds
 use Rattle.tree_structure.proofs.+count_list+count_node.Lts-count_node as count-node-lts
 use Rattle.counting_tree.proofs.points.classify.Reads as classify-reads
+use Rattle.counting_tree.proofs.grid.half_side.Reads as half-side-reads
 use Rattle.tree_structure.proofs.past.Reads as past-reads
 use Rattle.lists.proofs.word.Reads as word-reads
 use Rattle.tree_structure.proofs.+count_list+count_node.{statement}
@@ -89,7 +91,7 @@ count-list-returns-3 t c = λ gs u.
 
 -- what is known of the functions that `count_node` calls
 abbrev node-calls : ℕ → count-node-lts.Claims
-node-calls t = (word-reads.Asked, word-reads.Learnt, classify-reads.Asked, classify-reads.Learnt, past-reads.Asked, past-reads.Learnt, count-list-below t, count-list.Post)
+node-calls t = (word-reads.Asked, word-reads.Learnt, classify-reads.Asked, classify-reads.Learnt, past-reads.Asked, past-reads.Learnt, half-side-reads.Asked, half-side-reads.Learnt, count-list-below t, count-list.Post)
 
 count-node-word-requires : (t : ℕ) → count-node-lts.Need-word-requires (node-calls t) (count-node-at t) count-node.Post
 count-node-word-requires t c κs = omega (arith, tree-room (c .before .pre .1 .1 .1))
@@ -103,7 +105,7 @@ count-node-word-requires-2 t c κs = omega (arith, tree-room (c .before .before 
 count-node-classify-requires : (t : ℕ) → count-node-lts.Need-classify-requires (node-calls t) (count-node-at t) count-node.Post
 count-node-classify-requires t c κs =
     let p = c .before .before .before .pre .1 .0 in
-    (p .0, omega (arith, p .2), p .1, omega (arith, tree-below (c .before .before .before .pre .1 .1 .1), c .word2 .ensures))
+    (p .0, ready-side (p .0) (c .before .before .before .args .level) (c .before .before .before .args .side) (p .3) (omega (arith, p .2)), p .1, omega (arith, tree-below (c .before .before .before .pre .1 .1 .1), c .word2 .ensures))
 
 count-node-enum-told : (t : ℕ) → count-node-lts.Need-enum-told (node-calls t) (count-node-at t) count-node.Post
 count-node-enum-told t c = search needs
@@ -128,37 +130,40 @@ count-node-sub-count-list t c = pos-of-ne-zero (c .before .if1 .left)
 count-node-add-count-list-2 : (t : ℕ) → count-node-lts.Need-add-count-list-2 (node-calls t) (count-node-at t) count-node.Post
 count-node-add-count-list-2 t c = omega (arith, c .before .before .before .before .before .before .before .before .pre .1 .0 .2, few-levels (c .before .before .before .before .before .before .before .before .pre .1 .0 .0))
 
+count-node-half-side-requires : (t : ℕ) → count-node-lts.Need-half-side-requires (node-calls t) (count-node-at t) count-node.Post
+count-node-half-side-requires t c κs = search needs
+
 count-node-count-list-requires : (t : ℕ) → count-node-lts.Need-count-list-requires (node-calls t) (count-node-at t) count-node.Post
 count-node-count-list-requires t c κs =
-    let q = c .before .before .before .before .before .before .before .before .pre in
+    let q = c .before .before .before .before .before .before .before .before .before .pre in
     let p = q .1 .0 in
-    let h = c .before .if1 .left in
-    (omega (arith, q .0, c .past .ok, h), ((p .0, p .1, omega (arith, p .2, h)), (_, tree-children (q .1 .1 .1) (c .past .result) (c .past .ensures) h)))
+    let h = c .before .before .if1 .left in
+    (omega (arith, q .0, c .before .past .ok, h), ((p .0, p .1, omega (arith, p .2, h), next-side _ _ _ _ _ (p .3) (c .half-side .ensures)), (_, tree-children (q .1 .1 .1) (c .before .past .result) (c .before .past .ensures) h)))
 
 count-node-returns : (t : ℕ) → count-node-lts.Need-returns (node-calls t) (count-node-at t) count-node.Post
 count-node-returns t c = λ xs u.
     let a = c .before .before .before .before .before .before .args in
-    let b = tree-box u (geometryAt (a .v) (a .n) (now (a .points)) .box (a .q)) (c .before .before .before .word2 .ensures) (c .before .before .classify .ensures) (c .enum-told .given .1) in
+    let b = tree-box u (geometryAt (a .v) (a .n) (now (a .points)) .box (a .q)) (c .before .before .before .word2 .ensures) (c .before .before .classify .ensures ∙ box-level (c .before .before .before .before .before .before .pre .1 .0 .0) (a .level) (a .side) (c .before .before .before .before .before .before .pre .1 .0 .3) (a .q) _) (c .enum-told .given .1) in
     told _ [] _ refl refl (on-disjoint _ _ _ _ xs b)
 
 count-node-returns-2 : (t : ℕ) → count-node-lts.Need-returns-2 (node-calls t) (count-node-at t) count-node.Post
 count-node-returns-2 t c = λ xs u.
     let a = c .before .before .before .before .before .before .args in
-    let b = tree-box u (geometryAt (a .v) (a .n) (now (a .points)) .box (a .q)) (c .before .before .before .word2 .ensures) (c .before .before .classify .ensures) (c .enum-told2 .given .1) in
+    let b = tree-box u (geometryAt (a .v) (a .n) (now (a .points)) .box (a .q)) (c .before .before .before .word2 .ensures) (c .before .before .classify .ensures ∙ box-level (c .before .before .before .before .before .before .pre .1 .0 .0) (a .level) (a .side) (c .before .before .before .before .before .before .pre .1 .0 .3) (a .q) _) (c .enum-told2 .given .1) in
     told _ xs _ (c .before .before .before .before .word .ensures ∙ tree-count u) (c .before .before .before .word2 .ensures ∙ tree-first u) (on-covered _ _ _ _ xs b)
 
 count-node-returns-3 : (t : ℕ) → count-node-lts.Need-returns-3 (node-calls t) (count-node-at t) count-node.Post
 count-node-returns-3 t c = λ xs u.
     let a = c .before .before .before .before .before .before .before .args in
-    let b = tree-box u (geometryAt (a .v) (a .n) (now (a .points)) .box (a .q)) (c .before .before .before .before .word2 .ensures) (c .before .before .before .classify .ensures) (c .before .enum-told3 .given .1) in
+    let b = tree-box u (geometryAt (a .v) (a .n) (now (a .points)) .box (a .q)) (c .before .before .before .before .word2 .ensures) (c .before .before .before .classify .ensures ∙ box-level (c .before .before .before .before .before .before .before .pre .1 .0 .0) (a .level) (a .side) (c .before .before .before .before .before .before .before .pre .1 .0 .3) (a .q) _) (c .before .enum-told3 .given .1) in
     told _ xs _ (c .before .before .before .before .before .word .ensures ∙ tree-count u) (c .before .before .before .before .word2 .ensures ∙ tree-first u) (on-last _ _ _ _ xs (c .if1 .taken) b)
 
 count-node-returns-4 : (t : ℕ) → count-node-lts.Need-returns-4 (node-calls t) (count-node-at t) count-node.Post
 count-node-returns-4 t c = λ xs u.
-    let a = c .before .before .before .before .before .before .before .before .before .args in
-    let h = c .before .before .if1 .left in
-    let b = tree-box u (geometryAt (a .v) (a .n) (now (a .points)) .box (a .q)) (c .before .before .before .before .before .before .word2 .ensures) (c .before .before .before .before .before .classify .ensures) (c .before .before .before .enum-told3 .given .1) in
-    on-inner _ _ _ _ xs h b (c .count-list .ensures _ (tree-children u (c .before .past .result) (c .before .past .ensures) h))
+    let a = c .before .before .before .before .before .before .before .before .before .before .args in
+    let h = c .before .before .before .if1 .left in
+    let b = tree-box u (geometryAt (a .v) (a .n) (now (a .points)) .box (a .q)) (c .before .before .before .before .before .before .before .word2 .ensures) (c .before .before .before .before .before .before .classify .ensures ∙ box-level (c .before .before .before .before .before .before .before .before .before .before .pre .1 .0 .0) (a .level) (a .side) (c .before .before .before .before .before .before .before .before .before .before .pre .1 .0 .3) (a .q) _) (c .before .before .before .before .enum-told3 .given .1) in
+    on-inner _ _ _ _ xs h b (c .count-list .ensures _ (tree-children u (c .before .before .past .result) (c .before .before .past .ensures) h))
 
 pub +count-list+count-node-spec : {M : Type 1} → statement M
 +count-list+count-node-spec = close μ-count-list μ-count-node (λ t. count-list-lts.spec (list-calls t)
@@ -184,6 +189,7 @@ pub +count-list+count-node-spec : {M : Type 1} → statement M
     (count-node-past-requires t)
     (count-node-sub-count-list t)
     (count-node-add-count-list-2 t)
+    (count-node-half-side-requires t)
     (count-node-count-list-requires t)
     (count-node-returns t)
     (count-node-returns-2 t)

@@ -2,9 +2,15 @@
 use borrow.Author.Needs.{needs}
 use mathlib.Core.Logic.{inl}
 use native.Mathlib.Omega.{arith}
-use Rattle.tree_structure.proofs.Parting.{partition-work}
+use Rattle.counting_tree.specs.Ready.{geometryAt}
+use Rattle.tree_structure.proofs.Parting.{parted-none, partition-work}
 use Rattle.tree_structure.proofs.partition.Statement.{statement}
 use Rattle.tree_structure.proofs.partition.Tie as tie
+
+returns : tie.Need-returns
+returns c =
+    let a = c .before .before .args in
+    parted-none (geometryAt (a .v) (a .n) (a .points .now) .same (a .level) (a .pivot)) _ (a .from) (a .m) (c .if1 .taken)
 
 spread-requires : tie.Need-spread-requires
 spread-requires c κs = search needs
@@ -27,9 +33,9 @@ clear-words-requires c κs = search needs
 same-length : tie.Need-same-length
 same-length c = search needs
 
-returns : tie.Need-returns
-returns c =
-    let s = c .before .before .before .before .before .before .before .before .before .before .before .before .before .pre .1 in
+returns-2 : tie.Need-returns-2
+returns-2 c =
+    let s = c .before .before .before .before .before .before .before .before .before .before .before .before .before .before .pre .1 in
     let e = c .before .before .before .before .before .before .before .before .before .before .spread .ensures in
     (e .0, partition-work _ _ _ _ _ (s .0) (s .1) _ _ _ _ (s .2) (e .0 .1) (e .1) (c .before .before .before .before .before .before .copy-words .ensures) (c .before .before .clear-words .ensures))
 
@@ -37,6 +43,7 @@ pub partition-spec : {M : Type 1} → statement M
 partition-spec =
     tie.close
     (tie.spec
+    returns
     spread-requires
     add-copy-words
     sub-copy-words
@@ -44,4 +51,4 @@ partition-spec =
     sub-clear-words
     clear-words-requires
     same-length
-    returns)
+    returns-2)

@@ -5,18 +5,25 @@ use Prim.Native.Nat.{_-_}
 use native.Mathlib.Omega.{arith}
 use native.Mathlib.Nat.{le-antisymm}
 use Rattle.counting_tree.specs.Ready.{geometryAt}
+use Rattle.counting_tree.specs.Indexes.{ready-side, same-indexes}
 use Rattle.tree_structure.proofs.Parting.{Spread, spread-start, spread-sum, spread-length, spread-below, spread-keep, spread-lose}
 use Rattle.tree_structure.proofs.spread.Statement.{statement}
 use Rattle.tree_structure.proofs.spread.Tie as tie
 
 abbrev Inv-loop : tie.InvT-loop
-Inv-loop points v n work₀ scratch from m pivot level kept₀ lost₀ i₀ work kept lost i = Spread (geometryAt v n points .same level pivot) work₀ scratch from m work kept lost i
+Inv-loop points v n work₀ scratch from m pivot level side at kept₀ lost₀ i₀ work kept lost i = Spread (geometryAt v n points .same level pivot) work₀ scratch from m work kept lost i
 
 abbrev μ-loop : tie.MeasureT-loop
-μ-loop points v n work₀ scratch from m pivot level kept₀ lost₀ i₀ work kept lost i = m - i
+μ-loop points v n work₀ scratch from m pivot level side at kept₀ lost₀ i₀ work kept lost i = m - i
+
+indexes-at-requires : tie.Need-indexes-at-requires Inv-loop μ-loop
+indexes-at-requires c κs =
+    let s = c .before in
+    let p = s .pre .0 in
+    (p .0, p .1, ready-side (p .0) (s .args .level) (s .args .side) (p .4) (p .2))
 
 loop-holds : tie.Need-loop-holds Inv-loop μ-loop
-loop-holds c = spread-start (c .before .pre .1 .0) (c .before .pre .1 .1)
+loop-holds c = spread-start (c .before .before .pre .1 .0) (c .before .before .pre .1 .1)
 
 add-x : tie.Need-add-x Inv-loop μ-loop
 add-x c = omega arith
@@ -30,8 +37,11 @@ slice-read-x c = omega (arith, spread-length (c .before .before .loop .inv))
 wide-requires : tie.Need-wide-requires Inv-loop μ-loop
 wide-requires c κs = search needs
 
-same-box-requires : tie.Need-same-box-requires Inv-loop μ-loop
-same-box-requires c κs = (c .before .before .before .before .before .pre .0 .0, c .before .before .before .before .before .pre .0 .2, c .before .before .before .before .before .pre .0 .1, omega (arith, c .wide .ensures, spread-below (c .before .before .before .loop .inv) (c .before .before .loop-test .taken) (c .before .before .before .before .before .pre .0 .3)))
+has-indexes-requires : tie.Need-has-indexes-requires Inv-loop μ-loop
+has-indexes-requires c κs =
+    let s = c .before .before .before .before .before .before in
+    let p = s .pre .0 in
+    (p .0, omega (arith, c .wide .ensures, spread-below (c .before .before .before .loop .inv) (c .before .before .loop-test .taken) (p .3)), ready-side (p .0) (s .args .level) (s .args .side) (p .4) (p .2))
 
 add-work : tie.Need-add-work Inv-loop μ-loop
 add-work c = omega (arith, spread-sum (c .before .before .before .before .before .loop .inv))
@@ -52,7 +62,11 @@ loop-less : tie.Need-loop-less Inv-loop μ-loop
 loop-less c = omega arith
 
 loop-again : tie.Need-loop-again Inv-loop μ-loop
-loop-again c = spread-keep (c .before .before .before .before .before .loop .inv) (c .before .before .before .before .loop-test .taken) _ refl (c .before .before .wide .ensures) (c .before .same-box .ensures) (c .if1 .taken)
+loop-again c =
+    let s = c .before .before .before .before .before .before .before .before in
+    let p = s .pre .0 in
+    let e = same-indexes (p .0) (s .args .level) (s .args .side) (p .4) (s .args .pivot) (c .before .before .wide .result) (p .1) (c .before .before .before .before .before .before .indexes-at .result) (c .before .before .before .before .before .before .indexes-at .ensures) (c .before .has-indexes .result) (c .before .has-indexes .ensures) in
+    spread-keep (c .before .before .before .before .before .loop .inv) (c .before .before .before .before .loop-test .taken) _ refl (c .before .before .wide .ensures) e (c .if1 .taken)
 
 add-work-2 : tie.Need-add-work-2 Inv-loop μ-loop
 add-work-2 c = omega (arith, spread-sum (c .before .before .before .before .before .loop .inv))
@@ -73,7 +87,11 @@ loop-less-2 : tie.Need-loop-less-2 Inv-loop μ-loop
 loop-less-2 c = omega arith
 
 loop-again-2 : tie.Need-loop-again-2 Inv-loop μ-loop
-loop-again-2 c = spread-lose (c .before .before .before .before .before .loop .inv) (c .before .before .before .before .loop-test .taken) _ refl (c .before .before .wide .ensures) (c .before .same-box .ensures) (c .if1 .left)
+loop-again-2 c =
+    let s = c .before .before .before .before .before .before .before .before in
+    let p = s .pre .0 in
+    let e = same-indexes (p .0) (s .args .level) (s .args .side) (p .4) (s .args .pivot) (c .before .before .wide .result) (p .1) (c .before .before .before .before .before .before .indexes-at .result) (c .before .before .before .before .before .before .indexes-at .ensures) (c .before .has-indexes .result) (c .before .has-indexes .ensures) in
+    spread-lose (c .before .before .before .before .before .loop .inv) (c .before .before .before .before .loop-test .taken) _ refl (c .before .before .wide .ensures) e (c .if1 .left)
 
 same-length : tie.Need-same-length Inv-loop μ-loop
 same-length c = spread-length (c .before .loop .inv)
@@ -90,12 +108,13 @@ spread-spec =
     (tie.spec
     Inv-loop
     μ-loop
+    indexes-at-requires
     loop-holds
     add-x
     mul-x
     slice-read-x
     wide-requires
-    same-box-requires
+    has-indexes-requires
     add-work
     mul-work
     slice-write-work

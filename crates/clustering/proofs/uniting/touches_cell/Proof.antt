@@ -46,23 +46,23 @@ word-requires-2 c κs = omega arith
 is-core-requires : tie.Need-is-core-requires Inv-loop μ-loop
 is-core-requires c κs = (frame-low (c .before .before .loop .inv) (c .before .loop-test .taken) (c .word2 .ensures), c .before .before .loop .inv .room)
 
-tree-count-requires : tie.Need-tree-count-requires Inv-loop μ-loop
-tree-count-requires c κs =
+reaches-requires : tie.Need-reaches-requires Inv-loop μ-loop
+reaches-requires c κs =
     let s = c .before .before .before .before .before .before .before .before .pre in
     (s .0, s .1, frame-low (c .before .before .before .before .loop .inv) (c .before .before .before .loop-test .taken) (c .before .before .word2 .ensures), s .3)
 
 returns : tie.Need-returns Inv-loop μ-loop
 returns c =
-    touch-hit (c .before .before .before .before .before .before .before .loop .inv) (c .before .before .before .before .before .before .loop-test .taken)
-    (c .before .before .before .before .before .word2 .ensures) (c .before .before .before .before .is-core .ensures) (c .before .before .before .if1 .taken) (c .before .before .tree-count .ensures) (c .if2 .taken)
+    touch-hit (c .before .before .before .before .before .before .loop .inv) (c .before .before .before .before .before .loop-test .taken)
+    (c .before .before .before .before .word2 .ensures) (c .before .before .before .is-core .ensures) (c .before .before .if1 .taken) (c .before .reaches .ensures) (c .if2 .taken)
 
 loop-less : tie.Need-loop-less Inv-loop μ-loop
 loop-less c = omega arith
 
 loop-again : tie.Need-loop-again Inv-loop μ-loop
 loop-again c =
-    touch-miss (c .before .before .before .before .before .before .before .loop .inv) (c .before .before .before .before .before .before .loop-test .taken)
-    (c .before .before .before .before .before .word2 .ensures) (c .before .before .before .before .is-core .ensures) (c .before .before .before .if1 .taken) (c .before .before .tree-count .ensures) (c .if2 .left)
+    touch-miss (c .before .before .before .before .before .before .loop .inv) (c .before .before .before .before .before .loop-test .taken)
+    (c .before .before .before .before .word2 .ensures) (c .before .before .before .is-core .ensures) (c .before .before .if1 .taken) (c .before .reaches .ensures) (c .if2 .left)
 
 loop-less-2 : tie.Need-loop-less-2 Inv-loop μ-loop
 loop-less-2 c = omega arith
@@ -89,7 +89,7 @@ touches-cell-spec =
     add-word-2
     word-requires-2
     is-core-requires
-    tree-count-requires
+    reaches-requires
     returns
     loop-less
     loop-again

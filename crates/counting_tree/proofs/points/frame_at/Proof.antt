@@ -1,76 +1,127 @@
--- The frame is filled channel by channel.
-use mathlib.Core.Path.{_≡_, refl, ap, _∙_}
-use Prim.Native.Nat.{_+_, _*_, _-_, _≤_}
+-- Count by count; the others stay 0.
+use mathlib.Core.Path.{refl, sym}
+use Prim.Native.Nat.{_*_}
+use native.Mathlib.Nat.{add-zero}
 use native.Mathlib.Omega.{arith}
-use lib.IntN.{pos}
-use lib.ListN.{length, replicate}
-use mir.Facts.{toZ-ofZ}
-use Rattle.lists.specs.LoopLaws.{Fill, fill-start, fill-step, fill-end}
-use Rattle.lists.specs.Words.{over}
-use Rattle.counting_tree.specs.Arrays.{placed}
-use Rattle.counting_tree.proofs.Arrays.{countAt, count-column}
+use Rattle.lists.specs.PartLaws.{part-length}
+use Rattle.counting_tree.proofs.Arrays.{four-placed}
+use Rattle.counting_tree.proofs.Counts.{count-read, count-past}
+use borrow.Author.Needs.{needs}
 use Rattle.counting_tree.proofs.points.frame_at.Statement.{statement}
 use Rattle.counting_tree.proofs.points.frame_at.Tie as tie
 
-abbrev Inv-loop : tie.InvT-loop
-Inv-loop points channels i start frame₀ k₀ frame k = (channels ≤ 4) × (start ≡ i * channels) × (start + channels ≤ length points) × (frame₀ ≡ replicate 4 (pos 0)) × Fill (countAt points start) frame₀ 0 channels frame k
-
-abbrev μ-loop : tie.MeasureT-loop
-μ-loop points channels i start frame₀ k₀ frame k = channels - k
-
-mul-start : tie.Need-mul-start Inv-loop μ-loop
-mul-start c = omega arith
-
-loop-holds : tie.Need-loop-holds Inv-loop μ-loop
-loop-holds c = (omega arith, refl, omega arith, refl, fill-start (omega arith))
-
-add-frame : tie.Need-add-frame Inv-loop μ-loop
-add-frame c = omega arith
-
-mul-frame : tie.Need-mul-frame Inv-loop μ-loop
-mul-frame c = omega arith
-
-shared-slice-copy-out-frame : tie.Need-shared-slice-copy-out-frame Inv-loop μ-loop
-shared-slice-copy-out-frame c = omega arith
-
-mul-frame-2 : tie.Need-mul-frame-2 Inv-loop μ-loop
-mul-frame-2 c = omega arith
-
-array-set-from-frame : tie.Need-array-set-from-frame Inv-loop μ-loop
-array-set-from-frame c = omega arith
-
-add-k : tie.Need-add-k Inv-loop μ-loop
-add-k c = omega arith
-
-loop-less : tie.Need-loop-less Inv-loop μ-loop
-loop-less c = omega arith
-
-loop-again : tie.Need-loop-again Inv-loop μ-loop
-loop-again c =
-    let l = c .before .before .loop in
-    (l .inv .0, l .inv .1, l .inv .2, l .inv .3, fill-step (l .inv .4) (omega arith) _ (l .k) (omega arith) (toZ-ofZ (record { sfits = c .frame .given })))
-
-returns : tie.Need-returns Inv-loop μ-loop
-unfolding placed
+returns : tie.Need-returns
 returns c =
-    let l = c .before .loop in
-    let a = c .before .before .args in
-    fill-end (l .inv .4) (omega arith) ∙ ap (over (replicate 4 (pos 0)) 0) (count-column (a .points .now) (a .i * a .channels) (a .channels) (omega arith))
+    let s = c .before in
+    let a = s .args in
+    let past = count-past (a .points .now) (a .i * a .channels) (a .channels) in
+    four-placed _ _ _ _ _ (omega (arith, part-length (a .points .now) (a .i * a .channels) (a .channels) (s .pre .1)))
+    (past 0 (s .pre .1) (omega arith))
+    (past 1 (s .pre .1) (omega arith))
+    (past 2 (s .pre .1) (omega arith))
+    (past 3 (s .pre .1) (omega arith))
+
+mul-start : tie.Need-mul-start
+mul-start c = search needs
+
+mul-a : tie.Need-mul-a
+mul-a c = search needs
+
+shared-slice-copy-out-a : tie.Need-shared-slice-copy-out-a
+shared-slice-copy-out-a c = search needs
+
+returns-2 : tie.Need-returns-2
+returns-2 c =
+    let s = c .before .before .before in
+    let a = s .args in
+    let at = count-read (a .points .now) (a .i * a .channels) (a .channels) in
+    let past = count-past (a .points .now) (a .i * a .channels) (a .channels) in
+    four-placed _ _ _ _ _ (omega (arith, part-length (a .points .now) (a .i * a .channels) (a .channels) (s .pre .1)))
+    (at 0 _ (c .before .before .if1 .left) (sym (add-zero _)) (c .before .a .given))
+    (past 1 (s .pre .1) (omega arith))
+    (past 2 (s .pre .1) (omega arith))
+    (past 3 (s .pre .1) (omega arith))
+
+add-b : tie.Need-add-b
+add-b c = search needs
+
+mul-b : tie.Need-mul-b
+mul-b c = search needs
+
+shared-slice-copy-out-b : tie.Need-shared-slice-copy-out-b
+shared-slice-copy-out-b c = search needs
+
+returns-3 : tie.Need-returns-3
+returns-3 c =
+    let s = c .before .before .before .before .before in
+    let a = s .args in
+    let at = count-read (a .points .now) (a .i * a .channels) (a .channels) in
+    let past = count-past (a .points .now) (a .i * a .channels) (a .channels) in
+    four-placed _ _ _ _ _ (omega (arith, part-length (a .points .now) (a .i * a .channels) (a .channels) (s .pre .1)))
+    (at 0 _ (c .before .before .before .before .if1 .left) (sym (add-zero _)) (c .before .before .before .a .given))
+    (at 1 _ (c .before .before .if2 .left) refl (c .before .b .given))
+    (past 2 (s .pre .1) (omega arith))
+    (past 3 (s .pre .1) (omega arith))
+
+add-c : tie.Need-add-c
+add-c c = search needs
+
+mul-c : tie.Need-mul-c
+mul-c c = search needs
+
+shared-slice-copy-out-c : tie.Need-shared-slice-copy-out-c
+shared-slice-copy-out-c c = search needs
+
+returns-4 : tie.Need-returns-4
+returns-4 c =
+    let s = c .before .before .before .before .before .before .before in
+    let a = s .args in
+    let at = count-read (a .points .now) (a .i * a .channels) (a .channels) in
+    let past = count-past (a .points .now) (a .i * a .channels) (a .channels) in
+    four-placed _ _ _ _ _ (omega (arith, part-length (a .points .now) (a .i * a .channels) (a .channels) (s .pre .1)))
+    (at 0 _ (c .before .before .before .before .before .before .if1 .left) (sym (add-zero _)) (c .before .before .before .before .before .a .given))
+    (at 1 _ (c .before .before .before .before .if2 .left) refl (c .before .before .before .b .given))
+    (at 2 _ (c .before .before .if3 .left) refl (c .before .c .given))
+    (past 3 (s .pre .1) (omega arith))
+
+add-t9 : tie.Need-add-t9
+add-t9 c = search needs
+
+mul-t12 : tie.Need-mul-t12
+mul-t12 c = search needs
+
+shared-slice-copy-out-t11 : tie.Need-shared-slice-copy-out-t11
+shared-slice-copy-out-t11 c = search needs
+
+returns-5 : tie.Need-returns-5
+returns-5 c =
+    let s = c .before .before .before .before .before .before .before .before in
+    let a = s .args in
+    let at = count-read (a .points .now) (a .i * a .channels) (a .channels) in
+    four-placed _ _ _ _ _ (omega (arith, part-length (a .points .now) (a .i * a .channels) (a .channels) (s .pre .1)))
+    (at 0 _ (c .before .before .before .before .before .before .before .if1 .left) (sym (add-zero _)) (c .before .before .before .before .before .before .a .given))
+    (at 1 _ (c .before .before .before .before .before .if2 .left) refl (c .before .before .before .before .b .given))
+    (at 2 _ (c .before .before .before .if3 .left) refl (c .before .before .c .given))
+    (at 3 _ (c .before .if4 .left) refl (c .t11 .given))
 
 pub frame-at-spec : {M : Type 1} → statement M
 frame-at-spec =
     tie.close
     (tie.spec
-    Inv-loop
-    μ-loop
+    returns
     mul-start
-    loop-holds
-    add-frame
-    mul-frame
-    shared-slice-copy-out-frame
-    mul-frame-2
-    array-set-from-frame
-    add-k
-    loop-less
-    loop-again
-    returns)
+    mul-a
+    shared-slice-copy-out-a
+    returns-2
+    add-b
+    mul-b
+    shared-slice-copy-out-b
+    returns-3
+    add-c
+    mul-c
+    shared-slice-copy-out-c
+    returns-4
+    add-t9
+    mul-t12
+    shared-slice-copy-out-t11
+    returns-5)

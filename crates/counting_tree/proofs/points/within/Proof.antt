@@ -1,36 +1,21 @@
--- The float distance of two frames against the tolerance.
-use Rattle.counting_tree.proofs.Lent.{some-channels, inside, within-is}
+-- The sum of squared differences against t × t.
+use native.Mathlib.Omega.{arith}
+use Rattle.counting_tree.proofs.Lent.{product-fits, within-is}
 use borrow.Author.Needs.{needs}
 use Rattle.counting_tree.proofs.points.within.Statement.{statement}
 use Rattle.counting_tree.proofs.points.within.Tie as tie
 
-frame-at-requires : tie.Need-frame-at-requires
-frame-at-requires c κs = (some-channels (c .pre .0) .1, inside (c .pre .0) (c .args .i) (c .pre .1))
+square-apart-requires : tie.Need-square-apart-requires
+square-apart-requires c κs = search needs
 
-frame-at-requires-2 : tie.Need-frame-at-requires-2
-frame-at-requires-2 c κs = (some-channels (c .before .pre .0) .1, inside (c .before .pre .0) (c .before .args .j) (c .before .pre .2))
-
-floats-requires : tie.Need-floats-requires
-floats-requires c κs = search needs
-
-floats-requires-2 : tie.Need-floats-requires-2
-floats-requires-2 c κs = search needs
-
-distance-requires : tie.Need-distance-requires
-distance-requires c κs = some-channels (c .before .before .before .before .pre .0) .1
+mul-result : tie.Need-mul-result
+mul-result c = record { fits = omega (arith, product-fits (c .before .before .pre .0)) }
 
 returns : tie.Need-returns
 returns c =
-    let a = c .before .before .before .before .before .before .args in
-    within-is (c .before .before .before .before .before .before .pre .0) (a .i) (a .j) (c .before .before .before .before .before .before .pre .1) (c .before .before .before .before .before .before .pre .2) (c .before .before .before .before .before .frame-at .result) (c .before .before .before .before .frame-at2 .result) (c .before .before .before .before .before .frame-at .ensures) (c .before .before .before .before .frame-at2 .ensures) (c .before .before .before .floats .result) (c .before .before .floats2 .result) (c .before .distance .result) (c .before .before .before .floats .ensures) (c .before .before .floats2 .ensures) (c .before .distance .ensures)
+    let s = c .before .before in
+    let e = c .before .square-apart .ensures in
+    within-is (s .pre .0) (s .args .i) (s .args .j) (c .before .square-apart .result) (e .0) (s .pre .1) (s .pre .2) (e .1 .1 .0) (e .1 .1 .1)
 
 pub within-spec : {M : Type 1} → statement M
-within-spec =
-    tie.close
-    (tie.spec
-    frame-at-requires
-    frame-at-requires-2
-    floats-requires
-    floats-requires-2
-    distance-requires
-    returns)
+within-spec = tie.close (tie.spec square-apart-requires mul-result returns)

@@ -1,0 +1,243 @@
+-- Laws of blocks: a raised count lies in the block of its edge alone, a frame within the reach lies in one block of those around a frame; so the frames in these blocks that pass a test are all that pass it, each once.
+use mathlib.Core.Path.{_≡_, refl, sym, ap, ap₂, subst, _∙_}
+use mathlib.Core.Logic.{_⊎_, inl, inr}
+use mathlib.Core.Bool.{Bool, true, false, not, _&&_, cond, and-true, and-false}
+use mathlib.Core.List.{List, [], _∷_, _++_, map, List·Permᴰ, List·Permᴰ·nil, List·Permᴰ·cons, List·Permᴰ·trans, Permᴰ·refl, Permᴰ·append-left, Permᴰ·append-right, Permᴰ·middle}
+use Prim.Native.Nat.{ℕ, zero, suc, _+_, _-_, _*_, _/_, _%_, _^_, _<_, _≤_}
+use native.Mathlib.Nat.{mod-lt, mod-le, mod-eq-of-lt, add-mod, add-mod-right, zero-add, div-add-mod', mul-mod-left, mul-le-mul, suc-mul, mul-suc, pow-suc, zero-mod, add-mul-mod-self-left}
+use native.Mathlib.Omega.{arith}
+use lib.IntN.{ℤ, pos, negsuc, _+ℤ_}
+use lib.Signed.{mag}
+use lib.Dec.{T, T-not, leb, eqb, leb→le, nleb→lt, eqb→eq, eqb-refl}
+use lib.ListN.{length, take, getD}
+use lib.Pow.{pow-pos}
+use borrow.Author.Tests.{le-ltb, eq-eqb, ne-eqb}
+use Rattle.lists.specs.Lists.{numbers, keep, concat, In, Ascending}
+use Rattle.lists.specs.Buckets.{keepDown, mix, hashes}
+use Rattle.lists.specs.BucketLaws.{mix-below, down-perm}
+use Rattle.lists.specs.ListLaws.{true-T, T-or-not, both-ways, and-left, and-right, keep-same, map-same, numbers-in, in-numbers}
+use Rattle.lists.specs.CountLaws.{keep-none}
+use Rattle.lists.specs.OrderLaws.{numbers-ascending}
+use Rattle.hyperparams.specs.declared.ValidParams.{ValidParams}
+use Rattle.counting_tree.specs.Frames.{Frame, apart, squared}
+use Rattle.counting_tree.specs.FramesIn.{frame-length}
+use Rattle.cells_grid.specs.Blocks.{raise, width, edge, keyOf, shifted, blockAt, hashFrom, sameNats, frameAt, inBlock, inBlocks}
+
+-- ---- raised counts
+-- raising makes no two counts farther apart
+pub raise-near : (a b : ℤ) → (raise a - raise b) + (raise b - raise a) ≤ apart a b
+raise-near (pos a) (pos b) = omega arith
+raise-near (pos a) (negsuc b) = omega arith
+raise-near (negsuc a) (pos b) = omega arith
+raise-near (negsuc a) (negsuc b) = omega arith
+
+pub raise-below : (c : ℤ) → mag c < 32768 → raise c < 65536
+raise-below (pos n) h = omega arith
+raise-below (negsuc n) h = omega arith
+
+-- as the program raises it
+pub raise-is : (c : ℤ) (x : ℕ) → mag c < 32768 → pos x ≡ c +ℤ pos 32768 → x ≡ raise c
+raise-is c x h e = same (e ∙ go c h)
+  where
+    same : {m n : ℕ} → pos m ≡ pos n → m ≡ n
+    same p = cc
+
+    go : (c : ℤ) → mag c < 32768 → c +ℤ pos 32768 ≡ pos (raise c)
+    go (pos n) f = refl
+    go (negsuc n) f = rw (le-ltb 32768 (suc n) f)
+
+-- ---- edges
+module _ (w : ℕ) (p : 0 < w) where
+  pub edge-le : (x : ℕ) → edge w x ≤ x
+  edge-le x = omega arith
+
+  pub edge-above : (x : ℕ) → x < edge w x + w
+  edge-above x = omega (arith, mod-lt x p, mod-le x w)
+
+  pub edge-multiple : (x : ℕ) → edge w x % w ≡ 0
+  edge-multiple x =
+      let e : edge w x ≡ x / w * w = omega (arith, div-add-mod' x w) in
+      ap (λ (z : ℕ). z % w) e ∙ mul-mod-left (x / w) w
+
+  -- a multiple of w and less than w more
+  rest-mod : (e j : ℕ) → e % w ≡ 0 → j < w → (e + j) % w ≡ j
+  rest-mod e j q h = add-mod e j w ∙ ap₂ (λ (a b : ℕ). (a + b) % w) q (mod-eq-of-lt h) ∙ ap (λ (z : ℕ). z % w) (zero-add j) ∙ mod-eq-of-lt h
+
+  pub edge-is : (e x : ℕ) → e % w ≡ 0 → e ≤ x → x < e + w → edge w x ≡ e
+  edge-is e x q h k =
+      let a : x ≡ e + (x - e) = omega arith in
+      let b : x % w ≡ x - e = ap (λ (z : ℕ). z % w) a ∙ rest-mod e (x - e) q (omega arith) in
+      omega (arith, b)
+
+-- ---- what passes a test, in parts
+-- in two parts, those that pass g first
+parted : (f g : ℕ → Bool) (xs : List ℕ) → List·Permᴰ (keep (λ x. f x && g x) xs ++ keep (λ x. f x && not (g x)) xs) (keep f xs)
+parted f g [] = List·Permᴰ·nil
+parted f g (x ∷ xs) = go (f x) (g x) (keep (λ y. f y && g y) xs) (keep (λ y. f y && not (g y)) xs) (keep f xs) (parted f g xs)
+  where
+    go : (a b : Bool) (A B K : List ℕ) → List·Permᴰ (A ++ B) K → List·Permᴰ (cond (a && b) (x ∷ A) A ++ cond (a && not b) (x ∷ B) B) (cond a (x ∷ K) K)
+    go true true A B K p = List·Permᴰ·cons refl p
+    go true false A B K p = List·Permᴰ·trans (Permᴰ·middle x A B) (List·Permᴰ·cons refl p)
+    go false b A B K p = p
+
+-- by the value of h, where each that passes f has one of the values ks, in one part for each of these
+by-values : (h : ℕ → ℕ) (f : ℕ → Bool) (ks xs : List ℕ) → Ascending ks → ((x : ℕ) → In x xs → T (f x) → In (h x) ks) → List·Permᴰ (concat (map (λ k. keep (λ x. f x && eqb (h x) k) xs) ks)) (keep f xs)
+by-values h f [] xs a e = subst (List·Permᴰ []) (sym (keep-none f xs (λ x i t. e x i t))) List·Permᴰ·nil
+by-values h f (k ∷ ks) xs a e =
+    List·Permᴰ·trans
+    (Permᴰ·append-left (keep (λ x. f x && eqb (h x) k) xs) (List·Permᴰ·trans (subst (λ (l : List (List ℕ)). List·Permᴰ (concat l) (concat (map (λ j. keep (λ x. (f x && not (eqb (h x) k)) && eqb (h x) j) xs) ks))) same (Permᴰ·refl _)) (by-values h (λ x. f x && not (eqb (h x) k)) ks xs (a .1) left)))
+    (parted f (λ x. eqb (h x) k) xs)
+  where
+    left : (x : ℕ) → In x xs → T (f x && not (eqb (h x) k)) → In (h x) ks
+    left x i t = elim (e x i (and-left (f x) (not (eqb (h x) k)) t)) [
+      | inl q ↦ absurd (T-not (eqb (h x) k) (and-right (f x) (not (eqb (h x) k)) t) (subst (λ (z : ℕ). T (eqb (h x) z)) q (eqb-refl (h x))))
+      | inr j ↦ j
+    ]
+
+    same : map (λ j. keep (λ x. (f x && not (eqb (h x) k)) && eqb (h x) j) xs) ks ≡ map (λ j. keep (λ x. f x && eqb (h x) j) xs) ks
+    same = map-same _ _ ks (λ j i. keep-same _ _ xs (λ x l. one (f x) (eqb (h x) k) (eqb (h x) j) (λ s t. omega (arith, a .0 j i, eqb→eq (h x) k s, eqb→eq (h x) j t))))
+      where
+        one : (b s t : Bool) → (T s → T t → ⊥) → (b && not s) && t ≡ b && t
+        one true true true n = absurd (n tt tt)
+        one true true false n = refl
+        one true false t n = refl
+        one false s t n = refl
+
+concat-perm : (f g : ℕ → List ℕ) (xs : List ℕ) → ((x : ℕ) → In x xs → List·Permᴰ (f x) (g x)) → List·Permᴰ (concat (map f xs)) (concat (map g xs))
+concat-perm f g [] e = List·Permᴰ·nil
+concat-perm f g (x ∷ xs) e = List·Permᴰ·trans (Permᴰ·append-right (concat (map f xs)) (e x (inl refl))) (Permᴰ·append-left (g x) (concat-perm f g xs (λ y i. e y (inr i))))
+
+-- ---- hashes
+pub hash-below : (h : ℕ) (es : List ℕ) → h < hashes → hashFrom h es < hashes
+hash-below h [] l = l
+hash-below h (e ∷ es) l = hash-below (mix h e) es (mix-below h e)
+
+-- ---- blocks
+same-eqb : (a b c d : ℕ) → (a ≡ b → c ≡ d) → (c ≡ d → a ≡ b) → eqb a b ≡ eqb c d
+same-eqb a b c d f g = both-ways (eqb a b) (eqb c d) (λ t. true-T (eq-eqb c d (f (eqb→eq a b t)))) (λ t. true-T (eq-eqb a b (g (eqb→eq c d t))))
+
+pub same-nats : (xs ys : List ℕ) → T (sameNats xs ys) → xs ≡ ys
+same-nats [] [] t = refl
+same-nats [] (y ∷ ys) t = absurd t
+same-nats (x ∷ xs) [] t = absurd t
+same-nats (x ∷ xs) (y ∷ ys) t = ap₂ _∷_ (eqb→eq x y (and-left (eqb x y) (sameNats xs ys) t)) (same-nats xs ys (and-right (eqb x y) (sameNats xs ys) t))
+
+-- in each channel the raised counts of two frames differ by at most the reach
+abbrev pub Within : ℕ → Frame → Frame → Type 0
+Within reach [] [] = Unit {0}
+Within reach [] (b ∷ g) = ⊥
+Within reach (a ∷ f) [] = ⊥
+Within reach (a ∷ f) (b ∷ g) = ((raise a - raise b) + (raise b - raise a) ≤ reach) × Within reach f g
+
+root-le : (a r : ℕ) → a * a ≤ r * r → a ≤ r
+root-le a r h = elim (T-or-not (leb a r)) [
+  | inl t ↦ leb→le a r t
+  | inr f ↦ let l : suc r ≤ a = nleb→lt a r f in absurd (omega (arith, h, mul-le-mul l l, step r))
+]
+  where
+    step : (r : ℕ) → r * r < suc r * suc r
+    step r = omega (arith, suc-mul r (suc r), mul-suc r r)
+
+pub within-of : (reach : ℕ) (f g : Frame) → length f ≡ length g → squared f g ≤ reach * reach → Within reach f g
+within-of reach [] [] e h = tt
+within-of reach [] (b ∷ g) e h = absurd (omega arith)
+within-of reach (a ∷ f) [] e h = absurd (omega arith)
+within-of reach (a ∷ f) (b ∷ g) e h = (omega (arith, raise-near a b, root-le (apart a b) reach (omega arith)), within-of reach f g (omega arith) (omega arith))
+
+module _ (reach : ℕ) where
+  abbrev w : ℕ
+  w = width reach
+
+  -- the two edges that a count within the reach of x can have
+  two-edges : (x y : ℕ) → (x - y) + (y - x) ≤ reach → (edge w y ≡ edge w (x - reach)) ⊎ (edge w y ≡ edge w (x - reach) + w)
+  two-edges x y h = elim (T-or-not (leb (edge w (x - reach) + w) y)) [
+    | inl t ↦ inr (edge-is w p (edge w (x - reach) + w) y (add-mod-right (edge w (x - reach)) w ∙ edge-multiple w p (x - reach)) (leb→le (edge w (x - reach) + w) y t) (high x y (edge w (x - reach)) h (edge-above w p (x - reach))))
+    | inr f ↦ inl (edge-is w p (edge w (x - reach)) y (edge-multiple w p (x - reach)) (low x y (edge w (x - reach)) h (edge-le w p (x - reach))) (nleb→lt (edge w (x - reach) + w) y f))
+  ]
+    where
+      p : 0 < 2 * reach + 1
+      p = omega arith
+
+      low : (x y a : ℕ) → (x - y) + (y - x) ≤ reach → a ≤ x - reach → a ≤ y
+      low x y a h k = omega arith
+
+      high : (x y a : ℕ) → (x - y) + (y - x) ≤ reach → x - reach < a + (2 * reach + 1) → y < a + (2 * reach + 1) + (2 * reach + 1)
+      high x y a h k = omega arith
+
+  -- the number of the block around f in which g lies
+  abbrev which : Frame → Frame → ℕ
+  which [] g = 0
+  which (a ∷ f) [] = 0
+  which (a ∷ f) (b ∷ g) = cond (eqb (edge w (raise b)) (edge w (raise a - reach))) 0 1 + 2 * which f g
+
+  which-below : (f g : Frame) → which f g < 2 ^ length f
+  which-below [] g = omega arith
+  which-below (a ∷ f) [] = pow-pos (suc (length f))
+  which-below (a ∷ f) (b ∷ g) = go (eqb (edge w (raise b)) (edge w (raise a - reach))) (which-below f g)
+    where
+      go : (t : Bool) → which f g < 2 ^ length f → cond t 0 1 + 2 * which f g < 2 ^ suc (length f)
+      go true h = omega (arith, pow-suc 2 (length f))
+      go false h = omega (arith, pow-suc 2 (length f))
+
+  -- one channel
+  bits : (e a v q r k : ℕ) → 0 < v → r < 2 → (e ≡ a) ⊎ (e ≡ a + v) → eqb e (a + v * r) && eqb k q ≡ eqb (cond (eqb e a) 0 1 + 2 * k) (q * 2 + r)
+  bits e a v q zero k p l (inl h) = rw (eq-eqb e (a + v * 0) (omega arith), eq-eqb e a h) (same-eqb k q (0 + 2 * k) (q * 2 + 0) (λ z. omega arith) (λ z. omega arith))
+  bits e a v q (suc zero) k p l (inl h) = rw (ne-eqb e (a + v * 1) (λ z. omega arith), eq-eqb e a h) (sym (ne-eqb (0 + 2 * k) (q * 2 + 1) (λ z. omega arith)))
+  bits e a v q zero k p l (inr h) = rw (ne-eqb e (a + v * 0) (λ z. omega arith), ne-eqb e a (λ z. omega arith)) (sym (ne-eqb (1 + 2 * k) (q * 2 + 0) (λ z. omega arith)))
+  bits e a v q (suc zero) k p l (inr h) = rw (eq-eqb e (a + v * 1) (omega arith), ne-eqb e a (λ z. omega arith)) (same-eqb k q (1 + 2 * k) (q * 2 + 1) (λ z. omega arith) (λ z. omega arith))
+  bits e a v q (suc (suc r)) k p l h = absurd (omega arith)
+
+  -- it is that block alone
+  pub which-is : (f g : Frame) (m : ℕ) → Within reach f g → m < 2 ^ length f → sameNats (keyOf w g) (blockAt reach f m) ≡ eqb (which f g) m
+  which-is [] [] m t h = let e : m ≡ 0 = omega arith in sym (eq-eqb 0 m (sym e))
+  which-is [] (b ∷ g) m t h = absurd t
+  which-is (a ∷ f) [] m t h = absurd t
+  which-is (a ∷ f) (b ∷ g) m t h =
+      ap (λ (s : Bool). eqb (edge w (raise b)) (edge w (raise a - reach) + w * (m % 2)) && s) (which-is f g (m / 2) (t .1) (omega (arith, pow-suc 2 (length f))))
+      ∙ bits (edge w (raise b)) (edge w (raise a - reach)) w (m / 2) (m % 2) (which f g) (omega arith) (mod-lt m (omega arith)) (two-edges (raise a) (raise b) (t .0))
+      ∙ ap (eqb (which (a ∷ f) (b ∷ g))) (div-add-mod' m 2)
+
+-- the first channels of a block
+pub shifted-take : (w d : ℕ) (es : List ℕ) (m : ℕ) → take d (shifted w es m) ≡ shifted w (take d es) m
+shifted-take w zero es m = refl
+shifted-take w (suc d) [] m = refl
+shifted-take w (suc d) (e ∷ es) m = ap (λ (l : List ℕ). (e + w * (m % 2)) ∷ l) (shifted-take w d es (m / 2))
+
+-- a block begins at multiples of the width
+pub block-multiple : (reach : ℕ) (f : Frame) (m q : ℕ) → getD (blockAt reach f m) q 0 % width reach ≡ 0
+block-multiple reach [] m q = zero-mod (width reach)
+block-multiple reach (c ∷ f) m zero =
+    let p : 0 < 2 * reach + 1 = omega arith in
+    add-mul-mod-self-left (edge (width reach) (raise c - reach)) (width reach) (m % 2) ∙ edge-multiple (width reach) p (raise c - reach)
+block-multiple reach (c ∷ f) m (suc q) = block-multiple reach f (m / 2) q
+
+-- ---- the frames in the blocks around a frame
+module _ (reach : ℕ) (v : ValidParams) (n : ℕ) (ps : List ℤ) (room : n * v .channels ≤ length ps) (i : ℕ) (h : i < n) where
+  abbrev F : ℕ → Frame
+  F = frameAt reach v n ps
+
+  -- a frame within the reach lies in block m exactly if m is its number
+  in-one : (j m : ℕ) → j < n → squared (F i) (F j) ≤ reach * reach → m < 2 ^ v .channels → sameNats (keyOf (width reach) (F j)) (blockAt reach (F i) m) ≡ eqb (which reach (F i) (F j)) m
+  in-one j m l k t =
+      let e = frame-length n (v .channels) ps i room h in
+      which-is reach (F i) (F j) m (within-of reach (F i) (F j) (e ∙ sym (frame-length n (v .channels) ps j room l)) k) (subst (λ (d : ℕ). m < 2 ^ d) (sym e) t)
+
+  -- all frames that pass a test, each once, where only frames within the reach pass it
+  pub by-blocks : (f : ℕ → Bool) → ((j : ℕ) → j < n → T (f j) → squared (F i) (F j) ≤ reach * reach) → List·Permᴰ (inBlocks reach v n ps i f) (keep f (numbers n))
+  unfolding inBlock inBlocks
+  by-blocks f near =
+      List·Permᴰ·trans
+      (concat-perm (inBlock reach v n ps i f) (λ m. keep (λ j. f j && eqb (which reach (F i) (F j)) m) (numbers n)) (numbers (2 ^ v .channels)) (λ m k. block m (in-numbers (2 ^ v .channels) m k)))
+      (by-values (λ j. which reach (F i) (F j)) f (numbers (2 ^ v .channels)) (numbers n) (numbers-ascending (2 ^ v .channels))
+      (λ j k t. numbers-in (2 ^ v .channels) (which reach (F i) (F j)) (subst (λ (d : ℕ). which reach (F i) (F j) < 2 ^ d) (frame-length n (v .channels) ps i room h) (which-below reach (F i) (F j)))))
+    where
+      turn : (s e t : Bool) → (T t → s ≡ e) → s && t ≡ t && e
+      turn s e true q = and-true s ∙ q tt
+      turn s e false q = and-false s
+
+      block : (m : ℕ) → m < 2 ^ v .channels → List·Permᴰ (inBlock reach v n ps i f m) (keep (λ j. f j && eqb (which reach (F i) (F j)) m) (numbers n))
+      block m l =
+          let P : ℕ → Bool = λ j. sameNats (keyOf (width reach) (F j)) (blockAt reach (F i) m) && f j in
+          subst (List·Permᴰ (keepDown P n))
+          (keep-same P (λ j. f j && eqb (which reach (F i) (F j)) m) (numbers n) (λ j k. turn (sameNats (keyOf (width reach) (F j)) (blockAt reach (F i) m)) (eqb (which reach (F i) (F j)) m) (f j) (λ t. in-one j m (in-numbers n j k) (near j (in-numbers n j k) t) l)))
+          (down-perm P n)

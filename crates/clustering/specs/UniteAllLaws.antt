@@ -1,0 +1,175 @@
+-- Laws of uniting with no count of trials: whatever the order of the pairs, it leaves the sets that enough trials leave.
+use mathlib.Core.Path.{_≡_, refl, sym, ap, _∙_, subst}
+use mathlib.Core.Logic.{inl, inr}
+use mathlib.Core.Bool.{Bool, true, false, cond}
+use mathlib.Core.List.{List, [], _∷_, _++_, map}
+use Prim.Native.Nat.{ℕ, suc, _+_, _*_, _<_, _≤_}
+use native.Mathlib.Nat.{le-refl, le-antisymm}
+use native.Mathlib.Omega.{arith}
+use lib.Dec.{T, eqb}
+use lib.IntN.{ℤ}
+use lib.ListN.{length, getD}
+use borrow.Author.Tests.{lt-ltb}
+use Rattle.lists.specs.Lists.{numbers, keep, In}
+use Rattle.lists.specs.Words.{column}
+use Rattle.lists.specs.ListLaws.{keep-in, in-keep, concat-in, in-concat, map-in, in-map, numbers-in, in-numbers}
+use Rattle.lists.specs.Chains.{Chain, chain-map}
+use Rattle.hyperparams.specs.declared.ValidParams.{ValidParams}
+use Rattle.counting_tree.specs.Geometry.{Geometry}
+use Rattle.counting_tree.specs.Ready.{geometryAt, Ready}
+use Rattle.cells_grid.specs.Cells.{cells, listed, coreCell}
+use Rattle.cells_grid.specs.Arrangement.{cellAt}
+use Rattle.cells_grid.specs.Listing.{listOf}
+use Rattle.cells_grid.specs.ListingLaws.{list-sound, list-complete}
+use Rattle.partitions.specs.Leaders.{shortenBoth}
+use Rattle.partitions.specs.LeaderLaws.{Stands, alone-stands, both-stand, united-stands}
+use Rattle.partitions.specs.Trials.{Holding, Outcome, run, byLowest}
+use Rattle.partitions.specs.TrialLaws.{run-finishes, run-keeps, Link, Within, joined-one, one-joined}
+use Rattle.clustering.specs.LeaderPartition.{Lowest, unite-lowest}
+use Rattle.clustering.specs.Uniting.{pairAt, pairsWith, pairsOf, touchAt, uniting, lowestAt}
+use Rattle.clustering.specs.UnitingLaws.{in-pairs, pairs-in, pair-parts, pairs-few}
+use Rattle.clustering.specs.UniteAll.{meet, meetAll, byOwnLeaders, pairsBy}
+
+-- ---- however sets are held
+module _ {S : Type 0} (h : Holding S) (touch : ℕ → ℕ → Bool) where
+  -- some pairs, and then others
+  pub meet-append : (ps qs : List (ℕ × ℕ)) (s : S) → meetAll h touch (ps ++ qs) s ≡ meetAll h touch qs (meetAll h touch ps s)
+  unfolding meetAll
+  meet-append [] qs s = refl
+  meet-append ((a, b) ∷ ps) qs s = meet-append ps qs (meet h touch a b s)
+
+  -- a run with a trial for each pair leaves the same
+  run-meets : (trials used : ℕ) (ps : List (ℕ × ℕ)) (s : S) → used + length ps ≤ trials → run h touch trials used ps s .sets ≡ meetAll h touch ps s
+  unfolding run meetAll meet
+  run-meets trials used [] s k = refl
+  run-meets trials used ((a, b) ∷ ps) s k =
+      let asked = h .asked s a b in
+      let tried = cond (touch a b) (h .join asked a b) asked in
+      let l : used < trials = omega arith in
+      rw (lt-ltb used trials l) (go (h .same s a b) (run h touch trials used ps asked) (run h touch trials (suc used) ps tried) asked tried
+      (run-meets trials used ps asked (omega arith)) (run-meets trials (suc used) ps tried (omega arith)))
+    where
+      go : (x : Bool) (A B : Outcome S) (y z : S) → A .sets ≡ meetAll h touch ps y → B .sets ≡ meetAll h touch ps z → cond x A B .sets ≡ meetAll h touch ps (cond x y z)
+      go true A B y z e f = e
+      go false A B y z e f = f
+
+-- ---- by lowest cell, from each cell by itself
+module _ (touch : ℕ → ℕ → Bool) where
+  abbrev lowest : List (ℕ × ℕ) → ℕ → ℕ
+  lowest ps = meetAll byLowest touch ps (λ c. c)
+
+  -- which cells are joined, whatever they are
+  abbrev Tied : List (ℕ × ℕ) → ℕ → ℕ → Type 0
+  Tied ps = Chain (λ c. Unit {0}) (Link touch ps)
+
+  module _ (ps : List (ℕ × ℕ)) where
+    tried : run byLowest touch (length ps) 0 ps (λ c. c) .sets ≡ lowest ps
+    tried = run-meets byLowest touch (length ps) 0 ps (λ c. c) (omega arith)
+
+    lowest-lowest : Lowest (lowest ps)
+    lowest-lowest =
+        subst Lowest tried
+        (run-keeps byLowest touch (length ps) Lowest ps (λ l a b i w. w) (λ l a b i t w. unite-lowest a b l w) 0 (λ c. c)
+        (record { lower = λ x. le-refl x; itself = λ x. refl }))
+
+    tied-one : {x y : ℕ} → Tied ps x y → lowest ps x ≡ lowest ps y
+    tied-one {x} {y} t =
+        subst (λ (l : ℕ → ℕ). l x ≡ l y) tried
+        (joined-one touch (length ps) ps (λ c. Unit {0}) (run-finishes byLowest touch (length ps) 0 ps (λ c. c) (omega arith)) t)
+
+    one-tied : (x y : ℕ) → lowest ps x ≡ lowest ps y → Tied ps x y
+    one-tied x y e = one-joined touch (length ps) ps (λ c. Unit {0}) (λ a b i. (tt, tt)) x y tt tt (subst (λ (l : ℕ → ℕ). l x ≡ l y) (sym tried) e)
+
+  module _ (ps qs : List (ℕ × ℕ)) (within : (a b : ℕ) → In (a, b) ps → In (a, b) qs) where
+    link-within : (a b : ℕ) → Link touch ps a b → Link touch qs a b
+    link-within a b (inl i) = inl (within a b (i .0), i .1)
+    link-within a b (inr i) = inr (within b a (i .0), i .1)
+
+    -- more pairs leave lower cells
+    more-lower : (x : ℕ) → lowest qs x ≤ lowest ps x
+    more-lower x =
+        let t = one-tied ps (lowest ps x) x (lowest-lowest ps .itself x) in
+        let e = tied-one qs (chain-map (λ p c. c) link-within t) in
+        subst (λ (y : ℕ). y ≤ lowest ps x) e (lowest-lowest qs .lower (lowest ps x))
+
+  -- THE ORDER DOES NOT MATTER: the same pairs leave the same lowest cells
+  pub any-order : (ps qs : List (ℕ × ℕ)) → ((a b : ℕ) → In (a, b) ps → In (a, b) qs) → ((a b : ℕ) → In (a, b) qs → In (a, b) ps) → (x : ℕ) → lowest ps x ≡ lowest qs x
+  any-order ps qs to back x = le-antisymm (more-lower qs ps back x) (more-lower ps qs to x)
+
+-- ---- by leaders in memory
+module _ (touch : ℕ → ℕ → Bool) (n : ℕ) where
+  pub asked-stand : {l : ℕ → ℕ} {p : List ℕ} → Stands n l p → (a b : ℕ) → a < n → b < n → Stands n l (byOwnLeaders .asked p a b)
+  asked-stand {l} {p} s a b h k = go (eqb (getD p a 0) (getD p b 0))
+    where
+      go : (x : Bool) → Stands n l (cond x p (shortenBoth p a b))
+      go true = s
+      go false = both-stand s a b h k
+
+  -- leaders that stand for sets go as these sets do
+  pub meet-stands : {l : ℕ → ℕ} {p : List ℕ} → Stands n l p → (a b : ℕ) → a < n → b < n → Stands n (meet byLowest touch a b l) (meet byOwnLeaders touch a b p)
+  unfolding meet
+  meet-stands {l} {p} s a b h k =
+      let t = asked-stand s a b h k in
+      rw (s .roots a h, s .roots b k) (go (eqb (l a) (l b)) (touch a b) t (united-stands (both-stand t a b h k) a b h k))
+    where
+      go : (x y : Bool) {q r : List ℕ} {m : ℕ → ℕ} → Stands n l q → Stands n m r → Stands n (cond x l (cond y m l)) (cond x q (cond y r q))
+      go true y u v = u
+      go false true u v = v
+      go false false u v = u
+
+  pub all-stand : (ps : List (ℕ × ℕ)) → Within n ps → {l : ℕ → ℕ} {p : List ℕ} → Stands n l p → Stands n (meetAll byLowest touch ps l) (meetAll byOwnLeaders touch ps p)
+  unfolding meetAll
+  all-stand [] w s = s
+  all-stand ((a, b) ∷ ps) w s = let h = w a b (inl refl) in all-stand ps (λ c d i. w c d (inr i)) (meet-stands s a b (h .0) (h .1))
+
+-- ---- the pairs by lists, in any order
+-- a list has the core cells that its cell lists, and no others
+pub record Lists (g : Geometry) (lists : ℕ → List ℕ) : Type 0 where
+  pub sound : (c d : ℕ) → c < length (cells g) → In d (lists c) → (d < length (cells g)) × T (coreCell g (cellAt g d)) × T (listed g (cellAt g c) (cellAt g d))
+  pub complete : (c d : ℕ) → c < length (cells g) → d < length (cells g) → T (coreCell g (cellAt g d)) → T (listed g (cellAt g c) (cellAt g d)) → In d (lists c)
+
+module _ (g : Geometry) (lists : ℕ → List ℕ) where
+  abbrev cellCount : ℕ
+  cellCount = length (cells g)
+
+  module _ (exact : Lists g lists) where
+    by-in : (a b : ℕ) → In (a, b) (pairsBy g lists (numbers cellCount)) → In (a, b) (pairsOf g)
+    unfolding pairsBy pairsWith
+    by-in a b i =
+        let all = numbers cellCount in
+        let z = in-concat (a, b) (map (λ c. pairsWith g c (lists c)) all) i in
+        let y = in-map (λ c. pairsWith g c (lists c)) (z .0) all (z .1) in
+        let c = y .0 in
+        let h = in-numbers cellCount c (y .1) in
+        let x = in-map (λ d. (c, d)) (a, b) (keep (pairAt g c) (lists c)) (rw (y .2) at (z .2)) in
+        let k = in-keep (pairAt g c) (x .0) (lists c) (x .1) in
+        subst (λ (z : ℕ × ℕ). In z (pairsOf g)) (sym (x .2)) (pairs-in g c (x .0) h (exact .sound c (x .0) h (k .0) .0) (k .1))
+
+    in-by : (a b : ℕ) → In (a, b) (pairsOf g) → In (a, b) (pairsBy g lists (numbers cellCount))
+    unfolding pairsBy pairsWith
+    in-by a b i =
+        let all = numbers cellCount in
+        let z = in-pairs g a b i in
+        let p = pair-parts g a b (z .2) in
+        concat-in (a, b) (pairsWith g a (lists a)) (map (λ c. pairsWith g c (lists c)) all) (map-in (λ c. pairsWith g c (lists c)) a all (numbers-in cellCount a (z .0)))
+        (map-in (λ d. (a, d)) b (keep (pairAt g a) (lists a)) (keep-in (pairAt g a) b (lists a) (exact .complete a b (z .0) (z .1) (p .1) (p .2)) (z .2)))
+
+    by-within : Within cellCount (pairsBy g lists (numbers cellCount))
+    by-within a b i = let z = in-pairs g a b (by-in a b i) in (z .0, z .1)
+
+    module _ (trials : ℕ) (enough : cellCount * cellCount ≤ trials) where
+      -- what enough trials leave
+      by-lowest : (x : ℕ) → meetAll byLowest (touchAt g) (pairsBy g lists (numbers cellCount)) (λ c. c) x ≡ lowestAt g trials x
+      unfolding lowestAt uniting
+      by-lowest x =
+          any-order (touchAt g) (pairsBy g lists (numbers cellCount)) (pairsOf g) by-in in-by x
+          ∙ ap (λ (l : ℕ → ℕ). l x) (sym (run-meets byLowest (touchAt g) trials 0 (pairsOf g) (λ c. c) (omega (arith, pairs-few g))))
+
+      pub lists-stand : Stands cellCount (lowestAt g trials) (meetAll byOwnLeaders (touchAt g) (pairsBy g lists (numbers cellCount)) (column (λ c. c) cellCount))
+      lists-stand =
+          let s = all-stand (touchAt g) cellCount (pairsBy g lists (numbers cellCount)) by-within (alone-stands cellCount) in
+          record { falling = s .falling; size = s .size; roots = λ c h. s .roots c h ∙ by-lowest c }
+
+-- the lists that cells have are such
+pub list-listed : {ps : List ℤ} {v : ValidParams} {n : ℕ} → Ready ps v n → Lists (geometryAt v n ps) (listOf v n ps)
+list-listed r = record { sound = λ c d h. list-sound r c h d; complete = λ c d h. list-complete r c h d }

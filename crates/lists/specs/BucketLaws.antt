@@ -1,0 +1,215 @@
+-- Laws of hash buckets: hashes and buckets are in range, chains go on with one number more and under writing elsewhere, and a chain is walked from its latest number down.
+use mathlib.Core.Path.{_≡_, refl, sym, ap, subst, _∙_}
+use mathlib.Core.Logic.{_⊎_, inl, inr, _↔_}
+use mathlib.Core.Bool.{Bool, true, false, cond}
+use mathlib.Core.List.{List, [], _∷_, _++_, append-nil, List·Permᴰ, List·Permᴰ·nil, List·Permᴰ·cons, List·Permᴰ·trans, Permᴰ·symm, Permᴰ·middle}
+use Prim.Native.Nat.{ℕ, zero, suc, _+_, _*_, _/_, _^_, _<_, _≤_}
+use native.Mathlib.Nat.{eq-or-lt-of-le, le-of-suc-le-suc, mod-lt, div-lt-iff-lt-mul, mul-lt-mul-of-pos-right, mul-le-mul, lt-of-le-of-lt, mul-comm, add-zero}
+use native.Mathlib.Numerals.{add-one}
+use native.Mathlib.Decide.{ℕ-discrete, decLt}
+use native.Mathlib.Omega.{arith}
+use lib.Dec.{T, eqb, eqb→eq, eqb-refl}
+use lib.ListN.{length, getD}
+use Rattle.lists.specs.Lists.{numbers, keep, In}
+use Rattle.lists.specs.Words.{over, Clear}
+use Rattle.lists.specs.ListLaws.{true-T, T-true, T-false, keep-in, in-keep, numbers-in, in-numbers}
+use Rattle.lists.specs.OrderLaws.{kept-snoc}
+use Rattle.lists.specs.PermLaws.{perm-same}
+use Rattle.lists.specs.WordLaws.{over-length}
+use Rattle.lists.specs.PartLaws.{get-under, get-laid, get-above}
+use Rattle.lists.specs.Buckets.{lastWith, keepDown, hashes, mix, bucket, inBucket, Bucketed}
+
+-- ---- hashes and buckets are in range
+pub mix-below : (h e : ℕ) → mix h e < hashes
+unfolding mix
+mix-below h e = mod-lt ((h + e) * 1640531527 / 64) (omega arith)
+
+pub bucket-below : (n h : ℕ) → h < hashes → 0 < n → bucket n h < n
+unfolding bucket
+bucket-below n h l p = div-lt-iff-lt-mul {k = hashes} (omega arith) .1 (subst (λ (x : ℕ). h * n < x) (mul-comm hashes n) (mul-lt-mul-of-pos-right l p))
+
+pub product-fits : (h n : ℕ) → h < hashes → n < hashes → h * n < 2 ^ 64
+product-fits h n a b = lt-of-le-of-lt (mul-le-mul {n₂ = 4294967295} {m₂ = 4294967295} (omega arith) (omega arith)) (omega arith)
+
+-- ---- the numbers that pass, from the greatest down
+module _ (f : ℕ → Bool) where
+  pub last-le : (m : ℕ) → lastWith f m ≤ m
+  last-le zero = omega arith
+  last-le (suc m) = go (f m) (last-le m)
+    where
+      go : (b : Bool) → lastWith f m ≤ m → cond b (suc m) (lastWith f m) ≤ suc m
+      go true h = omega arith
+      go false h = omega arith
+
+  pub last-more : (m : ℕ) → lastWith f (m + 1) ≡ cond (f m) (m + 1) (lastWith f m)
+  last-more m = rw add-one
+
+  pub last-at : (c : ℕ) → T (f c) → lastWith f (suc c) ≡ suc c
+  last-at c t = rw (T-true (f c) t)
+
+  -- the greatest passes
+  pub last-hit : (m c : ℕ) → lastWith f m ≡ suc c → T (f c)
+  last-hit zero c e = absurd (omega arith)
+  last-hit (suc m) c e = go (f m) refl (last-hit m c) e
+    where
+      go : (b : Bool) → f m ≡ b → (lastWith f m ≡ suc c → T (f c)) → cond b (suc m) (lastWith f m) ≡ suc c → T (f c)
+      go true q r p = let s : m ≡ c = omega arith in subst (λ (x : ℕ). T (f x)) s (true-T q)
+      go false q r p = r p
+
+  -- and none above it does
+  pub last-gap : (m d : ℕ) → lastWith f m ≤ d → d < m → T (f d) → ⊥
+  last-gap zero d l h t = omega arith
+  last-gap (suc m) d l h t = go (f m) refl (last-gap m d) l
+    where
+      go : (b : Bool) → f m ≡ b → (lastWith f m ≤ d → d < m → T (f d) → ⊥) → cond b (suc m) (lastWith f m) ≤ d → ⊥
+      go true q r p = omega arith
+      go false q r p = elim (eq-or-lt-of-le (le-of-suc-le-suc h)) [
+        | inl e ↦ subst T (ap f e ∙ q) t
+        | inr k ↦ r p k t
+      ]
+
+  pub last-last : (m : ℕ) → lastWith f (lastWith f m) ≡ lastWith f m
+  last-last zero = refl
+  last-last (suc m) = go (f m) refl (last-last m)
+    where
+      go : (b : Bool) → f m ≡ b → lastWith f (lastWith f m) ≡ lastWith f m → lastWith f (cond b (suc m) (lastWith f m)) ≡ cond b (suc m) (lastWith f m)
+      go true q r = last-at m (true-T q)
+      go false q r = r
+
+  -- below the greatest and one there are the same numbers
+  pub keep-last : (m : ℕ) → keepDown f (lastWith f m) ≡ keepDown f m
+  keep-last zero = refl
+  keep-last (suc m) = go (f m) refl (keep-last m)
+    where
+      go : (b : Bool) → f m ≡ b → keepDown f (lastWith f m) ≡ keepDown f m → keepDown f (cond b (suc m) (lastWith f m)) ≡ cond b (m ∷ keepDown f m) (keepDown f m)
+      go true q r = rw q
+      go false q r = r
+
+  pub keep-at : (c : ℕ) → T (f c) → keepDown f (suc c) ≡ c ∷ keepDown f c
+  keep-at c t = rw (T-true (f c) t)
+
+  -- the same numbers as ascending
+  pub down-perm : (m : ℕ) → List·Permᴰ (keepDown f m) (keep f (numbers m))
+  down-perm zero = List·Permᴰ·nil
+  down-perm (suc m) = subst (List·Permᴰ (keepDown f (suc m))) (sym (kept-snoc f m) ∙ ap (λ (k : ℕ). keep f (numbers k)) (add-one m)) (go (f m) (down-perm m))
+    where
+      go : (b : Bool) → List·Permᴰ (keepDown f m) (keep f (numbers m)) → List·Permᴰ (cond b (m ∷ keepDown f m) (keepDown f m)) (keep f (numbers m) ++ cond b (m ∷ []) [])
+      go true p = List·Permᴰ·trans (List·Permᴰ·cons refl p) (subst (λ (l : List ℕ). List·Permᴰ (m ∷ l) (keep f (numbers m) ++ (m ∷ []))) (append-nil (keep f (numbers m))) (Permᴰ·symm (Permᴰ·middle m (keep f (numbers m)) [])))
+      go false p = subst (List·Permᴰ (keepDown f m)) (sym (append-nil (keep f (numbers m)))) p
+
+  pub down-in : (m d : ℕ) → In d (keepDown f m) ↔ ((d < m) × T (f d))
+  down-in m d = (
+    λ i. let z = in-keep f d (numbers m) (perm-same (down-perm m) d .0 i) in (in-numbers m d (z .0), z .1),
+    λ z. perm-same (down-perm m) d .1 (keep-in f d (numbers m) (numbers-in m d (z .0)) (z .1)),
+  )
+
+-- ---- a walk: e is 0, or one more than a number below m that passes; `keepDown f e` is what is still to come
+pub record Walk (f : ℕ → Bool) (m e : ℕ) : Type 0 where
+  pub low : e ≤ m
+  pub at : lastWith f e ≡ e
+
+module _ {f : ℕ → Bool} {m : ℕ} where
+  pub walk-start : {e : ℕ} → e ≡ lastWith f m → Walk f m e × (keepDown f e ≡ keepDown f m)
+  walk-start {e} q = (record { low = omega (arith, q, last-le f m); at = ap (lastWith f) q ∙ last-last f m ∙ sym q }, ap (keepDown f) q ∙ keep-last f m)
+
+  module _ {e : ℕ} (W : Walk f m e) where
+    pub walk-end : e ≡ 0 → keepDown f e ≡ []
+    walk-end q = ap (keepDown f) q
+
+    module _ (c : ℕ) (q : e ≡ c + 1) where
+      pub walk-hit : T (f c)
+      walk-hit = last-hit f e c (W .at ∙ q ∙ add-one c)
+
+      pub walk-cons : keepDown f e ≡ c ∷ keepDown f c
+      walk-cons = ap (keepDown f) (q ∙ add-one c) ∙ keep-at f c walk-hit
+
+      pub walk-next : {x : ℕ} → x ≡ lastWith f c → Walk f m x × (x ≤ c) × (keepDown f x ≡ keepDown f c)
+      walk-next {x} p = (
+        record { low = omega (arith, p, last-le f c, W .low); at = ap (lastWith f) p ∙ last-last f c ∙ sym p },
+        omega (arith, p, last-le f c),
+        ap (keepDown f) p ∙ keep-last f c,
+      )
+
+-- ---- the words
+-- a word that is not written over
+get-apart : (w : List ℕ) (b i : ℕ) (ws : List ℕ) → b ≤ length w → (b + length ws ≤ i) ⊎ (i < b) → getD (over w b ws) i 0 ≡ getD w i 0
+get-apart w b i ws h (inl p) = get-above w b i ws p h
+get-apart w b i ws h (inr p) = get-under w b i ws p h
+
+get-one : (w : List ℕ) (a x : ℕ) → a ≤ length w → getD (over w a (x ∷ [])) a 0 ≡ x
+get-one w a x h = ap (λ (j : ℕ). getD (over w a (x ∷ [])) j 0) (sym (add-zero a)) ∙ get-laid w a 0 (x ∷ []) (omega arith) h
+
+-- no numbers
+pub bucketed-none : {bucketOf : ℕ → ℕ} {n heads nexts : ℕ} {w : List ℕ} → Clear w heads n → Bucketed bucketOf n 0 heads nexts w
+bucketed-none z = record { head = z; next = λ c h k. absurd (omega arith) }
+
+module _ {bucketOf : ℕ → ℕ} {n m heads nexts : ℕ} {w : List ℕ} (B : Bucketed bucketOf n m heads nexts w) where
+  -- words laid elsewhere
+  pub bucketed-over : (b : ℕ) (ws : List ℕ) → b ≤ length w → (b + length ws ≤ heads) ⊎ (heads + n ≤ b) → (b + length ws ≤ nexts) ⊎ (nexts + m ≤ b) → Bucketed bucketOf n m heads nexts (over w b ws)
+  bucketed-over b ws l p q = record {
+    head = λ h k. get-apart w b (heads + h) ws l (elim p [ inl z ↦ inl (omega arith) | inr z ↦ inr (omega arith) ]) ∙ B .head h k;
+    next = λ c k u. get-apart w b (nexts + c) ws l (elim q [ inl z ↦ inl (omega arith) | inr z ↦ inr (omega arith) ]) ∙ B .next c k u;
+  }
+
+  -- the number m is put in its bucket, as `push` does
+  module _ (inside : bucketOf m < n) (apart : heads + n ≤ nexts) (fit : nexts + m < length w) where
+    abbrev b : ℕ
+    b = bucketOf m
+
+    abbrev x : ℕ
+    x = getD w (heads + b) 0
+
+    abbrev w₁ : List ℕ
+    w₁ = over w (nexts + m) (x ∷ [])
+
+    abbrev w₂ : List ℕ
+    w₂ = over w₁ (heads + b) ((m + 1) ∷ [])
+
+    l₁ : length w₁ ≡ length w
+    l₁ = over-length w (nexts + m) (x ∷ []) (omega arith)
+
+    new-head : (h : ℕ) → h < n → getD w₂ (heads + h) 0 ≡ lastWith (inBucket bucketOf h) (m + 1)
+    new-head h k = elim (ℕ-discrete b h) [
+      | yes e ↦
+          ap (λ (j : ℕ). getD w₂ (heads + j) 0) (sym e)
+          ∙ get-one w₁ (heads + b) (m + 1) (omega (arith, l₁))
+          ∙ sym (last-more (inBucket bucketOf h) m ∙ ap (λ (t : Bool). cond t (m + 1) (lastWith (inBucket bucketOf h) m)) (T-true (eqb b h) (subst (λ (y : ℕ). T (eqb b y)) e (eqb-refl b))))
+      | no e ↦
+          get-apart w₁ (heads + b) (heads + h) ((m + 1) ∷ []) (omega (arith, l₁)) (side e)
+          ∙ get-apart w (nexts + m) (heads + h) (x ∷ []) (omega arith) (inr (omega arith))
+          ∙ B .head h k
+          ∙ sym (last-more (inBucket bucketOf h) m ∙ ap (λ (t : Bool). cond t (m + 1) (lastWith (inBucket bucketOf h) m)) (T-false (eqb b h) (λ t. e (eqb→eq b h t))))
+    ]
+      where
+        side : (b ≡ h → ⊥) → (heads + b + 1 ≤ heads + h) ⊎ (heads + h < heads + b)
+        side e = elim (decLt h b) [ yes l ↦ inr (omega arith) | no l ↦ inl (omega arith) ]
+
+    new-next : (c : ℕ) → c < m + 1 → bucketOf c < n → getD w₂ (nexts + c) 0 ≡ lastWith (inBucket bucketOf (bucketOf c)) c
+    new-next c k u =
+        get-apart w₁ (heads + b) (nexts + c) ((m + 1) ∷ []) (omega (arith, l₁)) (inl (omega arith))
+        ∙ elim (eq-or-lt-of-le {n = c} {m = m} (omega arith)) [
+          | inl e ↦ subst (λ (y : ℕ). getD w₁ (nexts + y) 0 ≡ lastWith (inBucket bucketOf (bucketOf y)) y) (sym e) (get-one w (nexts + m) x (omega arith) ∙ B .head b inside)
+          | inr l ↦ get-apart w (nexts + m) (nexts + c) (x ∷ []) (omega arith) (inr (omega arith)) ∙ B .next c l u
+        ]
+
+    pub bucketed-push : {v : List ℕ} → v ≡ w₂ → Bucketed bucketOf n (m + 1) heads nexts v
+    bucketed-push e = subst (Bucketed bucketOf n (m + 1) heads nexts) (sym e) (record { head = new-head; next = new-next })
+
+  -- the number m is in none
+  pub bucketed-skip : n ≤ bucketOf m → Bucketed bucketOf n (m + 1) heads nexts w
+  bucketed-skip l = record {
+    head = λ h k. B .head h k ∙ sym (last-more (inBucket bucketOf h) m ∙ ap (λ (t : Bool). cond t (m + 1) (lastWith (inBucket bucketOf h) m)) (T-false (eqb (bucketOf m) h) (λ t. omega (arith, eqb→eq (bucketOf m) h t))));
+    next = λ c k u. elim (eq-or-lt-of-le {n = c} {m = m} (omega arith)) [ inl e ↦ absurd (omega (arith, ap bucketOf e)) | inr j ↦ B .next c j u ];
+  }
+
+  -- ---- a bucket is walked
+  module _ (h : ℕ) where
+    -- from its head
+    pub bucket-start : h < n → {x : ℕ} → x ≡ getD w (heads + h) 0 → Walk (inBucket bucketOf h) m x × (keepDown (inBucket bucketOf h) x ≡ keepDown (inBucket bucketOf h) m)
+    bucket-start l q = walk-start (q ∙ B .head h l)
+
+    -- and on from c
+    pub bucket-next : h < n → {e : ℕ} (c : ℕ) → Walk (inBucket bucketOf h) m e → e ≡ c + 1 → {x : ℕ} → x ≡ getD w (nexts + c) 0 → x ≡ lastWith (inBucket bucketOf h) c
+    bucket-next l c W q p =
+        let e : bucketOf c ≡ h = eqb→eq (bucketOf c) h (walk-hit W c q) in
+        p ∙ B .next c (omega (arith, W .low)) (omega arith) ∙ ap (λ (y : ℕ). lastWith (inBucket bucketOf y) c) e

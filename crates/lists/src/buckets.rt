@@ -1,0 +1,34 @@
+// Hash buckets: chains of numbers in words of a lent slice.
+ghost use mathlib.Core.Path.{_≡_};
+ghost use mathlib.Core.List.{[], _∷_};
+ghost use Prim.Native.Nat.{_+_, _<_};
+ghost use lib.ListN.{length, getD};
+ghost use Rattle.lists.specs.Words.{over};
+ghost use Rattle.lists.specs.Buckets as Definitions;
+ghost use Rattle.lists.specs.Buckets.{hashes};
+use crate::Word;
+
+// The hash h of some numbers, made one of those and e.
+pub fn mix(h: u64, e: u64) -> u64
+    requires { ⌜ (h < hashes) × (e < hashes) ⌝ }
+    ensures { λ r. ⌜ r ≡ Definitions.mix h e ⌝ }
+{
+    (h + e) * 1640531527 / 64 % 4294967296
+}
+
+// Which of n buckets the hash h falls in.
+pub fn bucket(h: u64, n: usize) -> usize
+    requires { ⌜ (h < hashes) × (n < hashes) ⌝ }
+    ensures { λ r. ⌜ r ≡ Definitions.bucket n h ⌝ }
+{
+    (h as usize) * n / 4294967296
+}
+
+// Puts the number c at the head of bucket h.
+pub fn push(work: &mut [Word], heads: usize, nexts: usize, h: usize, c: usize)
+    requires { ⌜ (heads + h < length (now work)) × (nexts + c < length (now work)) × (c < 65535) ⌝ }
+    ensures { λ _. ⌜ now (work .exit) ≡ over (over (now (work .entry)) (nexts + c) (getD (now (work .entry)) (heads + h) 0 ∷ [])) (heads + h) ((c + 1) ∷ []) ⌝ }
+{
+    work[nexts + c] = work[heads + h];
+    work[heads + h] = (c + 1) as Word;
+}
