@@ -89,7 +89,7 @@ fn damage(rng: &mut Random, bytes: &mut Vec<u8>) {
         3 if at < bytes.len() => bytes[at] = rng.next() as u8,
         4 if at < bytes.len() => bytes[at] = rng.pick(b"0123456789abcdefABFGg/:`@\n\r \0\xff"),
         5 => bytes.push(rng.pick(b"\n0\0")),
-        6 if !bytes.is_empty() => bytes[1] = rng.pick(b"01234567f"),
+        6 if bytes.len() > 1 => bytes[1] = rng.pick(b"01234567f"),
         _ => {
             let line = bytes.iter().position(|b| *b == b'\n').map_or(bytes.len(), |k| k + 1);
             let copy = bytes[line..].to_vec();
