@@ -2,13 +2,13 @@
 use mathlib.Core.Path.{_≡_, refl, sym, ap, ap₂, _∙_}
 use mathlib.Core.Logic.{inl, inr}
 use mathlib.Core.Bool.{Bool, true, false, not, _&&_, and-true}
-use mathlib.Core.List.{List, [], _∷_, _++_, map}
-use Prim.Native.Nat.{ℕ, zero, suc, _+_, _-_, _*_, _/_, _%_, _<_, _≤_}
-use native.Mathlib.Nat.{mul-le-mul, le-of-suc-le-suc, not-suc-le-zero, add-zero, sub-zero}
+use mathlib.Core.List.{List, [], _∷_, _++_}
+use Prim.Native.Nat.{ℕ, suc, _+_, _-_, _*_, _/_, _%_, _<_, _≤_}
+use native.Mathlib.Nat.{mul-le-mul, add-zero, sub-zero}
 use native.Mathlib.Omega.{arith}
 use lib.IntN.{ℤ, pos, _+ℤ_}
 use lib.Dec.{leb, ltb, eqb, leb→le, le→leb, ltb→lt, lt→ltb, eqb→eq}
-use lib.ListN.{length, getD, take, drop, replicate, length-map, drop-of-length-le}
+use lib.ListN.{length, getD, take, drop, replicate, length-map, drop-of-length-le, List·getD-eq-default}
 use lib.Seq.{getD-take, getD-drop, take-suc, drop-cons, length-take-le}
 use mir.Syntax.{w16, w64}
 use mir.Val.{Fits, SFits, toZ, ofZ}
@@ -16,22 +16,19 @@ use mir.Facts.{toZ-ofZ}
 use borrow.Author.Tests.{eq-eqb}
 use Rattle.lists.specs.Lists.{Below}
 use Rattle.lists.specs.Words.{over}
-use Rattle.lists.specs.Buckets.{mix, bucket}
+use Rattle.lists.specs.Buckets.{mix, hashFrom, hashOf, bucket}
+use Rattle.lists.specs.WordLaws.{four-over}
 use Rattle.lists.specs.PartLaws.{part-same}
-use Rattle.lists.specs.ListLaws.{true-T, both-ways}
+use Rattle.lists.specs.ListLaws.{true-T, both-ways, not-turn, at-map}
 use Rattle.hyperparams.specs.Params.{maxFrames}
 use Rattle.hyperparams.specs.declared.ValidParams.{ValidParams}
 use Rattle.counting_tree.specs.Frames.{Frame, framesIn}
 use Rattle.counting_tree.specs.FramesIn.{frame-at, frame-inside, frame-length}
 use Rattle.counting_tree.specs.Geometry.{frame}
 use Rattle.counting_tree.specs.Ready.{Ready}
-use Rattle.cells_grid.specs.Blocks.{raise, width, edge, edgesOf, keyOf, shifted, blockAt, hashFrom, hashOf, sameNats}
+use Rattle.cells_grid.specs.Blocks.{raise, width, edge, edgesOf, keyOf, shifted, blockAt, sameNats}
 use Rattle.cells_grid.specs.BlockLaws.{raise-is, edge-le, edge-above, edge-is, shifted-take, block-multiple}
 use Rattle.cells_grid.specs.HashLaws.{hash-bucket}
-
-not-not : (b : Bool) → not (not b) ≡ b
-not-not true = refl
-not-not false = refl
 
 -- ---- a count
 -- raised, as the program has it
@@ -84,31 +81,21 @@ four-below n a b c d h k l m x (inr (inr (inr (inl e)))) = omega arith
 four-below n a b c d h k l m x (inr (inr (inr (inr e)))) = absurd e
 
 -- the first numbers, and zeros
-pub place-one : (es : List ℕ) (a : ℕ) → length es ≡ 1 → a ≡ getD es 0 0 → _≡_ {A = List ℕ} (a ∷ 0 ∷ 0 ∷ 0 ∷ []) (over (replicate 4 0) 0 es)
-place-one [] a l p = absurd (omega arith)
-place-one (e ∷ []) a l p = rw p
-place-one (e ∷ x ∷ es) a l p = absurd (omega arith)
+module _ (es : List ℕ) where
+  past : (k : ℕ) → length es ≤ k → 0 ≡ getD es k 0
+  past k h = sym (List·getD-eq-default es 0 h)
 
-pub place-two : (es : List ℕ) (a b : ℕ) → length es ≡ 2 → a ≡ getD es 0 0 → b ≡ getD es 1 0 → _≡_ {A = List ℕ} (a ∷ b ∷ 0 ∷ 0 ∷ []) (over (replicate 4 0) 0 es)
-place-two [] a b l p q = absurd (omega arith)
-place-two (e ∷ []) a b l p q = absurd (omega arith)
-place-two (e ∷ f ∷ []) a b l p q = rw (p, q)
-place-two (e ∷ f ∷ x ∷ es) a b l p q = absurd (omega arith)
+  pub place-one : (a : ℕ) → length es ≡ 1 → a ≡ getD es 0 0 → _≡_ {A = List ℕ} (a ∷ 0 ∷ 0 ∷ 0 ∷ []) (over (replicate 4 0) 0 es)
+  place-one a l p = four-over 0 es a 0 0 0 (omega arith) p (past 1 (omega arith)) (past 2 (omega arith)) (past 3 (omega arith))
 
-pub place-three : (es : List ℕ) (a b c : ℕ) → length es ≡ 3 → a ≡ getD es 0 0 → b ≡ getD es 1 0 → c ≡ getD es 2 0 → _≡_ {A = List ℕ} (a ∷ b ∷ c ∷ 0 ∷ []) (over (replicate 4 0) 0 es)
-place-three [] a b c l p q r = absurd (omega arith)
-place-three (e ∷ []) a b c l p q r = absurd (omega arith)
-place-three (e ∷ f ∷ []) a b c l p q r = absurd (omega arith)
-place-three (e ∷ f ∷ g ∷ []) a b c l p q r = rw (p, q, r)
-place-three (e ∷ f ∷ g ∷ x ∷ es) a b c l p q r = absurd (omega arith)
+  pub place-two : (a b : ℕ) → length es ≡ 2 → a ≡ getD es 0 0 → b ≡ getD es 1 0 → _≡_ {A = List ℕ} (a ∷ b ∷ 0 ∷ 0 ∷ []) (over (replicate 4 0) 0 es)
+  place-two a b l p q = four-over 0 es a b 0 0 (omega arith) p q (past 2 (omega arith)) (past 3 (omega arith))
 
-pub place-four : (es : List ℕ) (a b c d : ℕ) → length es ≡ 4 → a ≡ getD es 0 0 → b ≡ getD es 1 0 → c ≡ getD es 2 0 → d ≡ getD es 3 0 → _≡_ {A = List ℕ} (a ∷ b ∷ c ∷ d ∷ []) (over (replicate 4 0) 0 es)
-place-four [] a b c d l p q r s = absurd (omega arith)
-place-four (e ∷ []) a b c d l p q r s = absurd (omega arith)
-place-four (e ∷ f ∷ []) a b c d l p q r s = absurd (omega arith)
-place-four (e ∷ f ∷ g ∷ []) a b c d l p q r s = absurd (omega arith)
-place-four (e ∷ f ∷ g ∷ h ∷ []) a b c d l p q r s = rw (p, q, r, s)
-place-four (e ∷ f ∷ g ∷ h ∷ x ∷ es) a b c d l p q r s = absurd (omega arith)
+  pub place-three : (a b c : ℕ) → length es ≡ 3 → a ≡ getD es 0 0 → b ≡ getD es 1 0 → c ≡ getD es 2 0 → _≡_ {A = List ℕ} (a ∷ b ∷ c ∷ 0 ∷ []) (over (replicate 4 0) 0 es)
+  place-three a b c l p q r = four-over 0 es a b c 0 (omega arith) p q r (past 3 (omega arith))
+
+  pub place-four : (a b c d : ℕ) → length es ≡ 4 → a ≡ getD es 0 0 → b ≡ getD es 1 0 → c ≡ getD es 2 0 → d ≡ getD es 3 0 → _≡_ {A = List ℕ} (a ∷ b ∷ c ∷ d ∷ []) (over (replicate 4 0) 0 es)
+  place-four a b c d l p q r s = four-over 0 es a b c d (omega arith) p q r s
 
 -- ---- hashes, channel by channel
 pub hash-next : (l : List ℕ) (k h x : ℕ) → k < length l → h ≡ hashOf (take k l) → x ≡ mix h (getD l k 0) → x ≡ hashOf (take (suc k) l)
@@ -119,11 +106,6 @@ hash-next l k h x i e q = q ∙ ap (λ (z : ℕ). mix z (getD l k 0)) e ∙ sym 
     hash-snoc h (x ∷ es) e = hash-snoc (mix h x) es e
 
 -- ---- the counts of a frame
-map-at : (f : ℤ → ℕ) (l : List ℤ) (k : ℕ) → k < length l → getD (map f l) k 0 ≡ f (getD l k (pos 0))
-map-at f [] k h = absurd (not-suc-le-zero h)
-map-at f (z ∷ l) zero h = refl
-map-at f (z ∷ l) (suc k) h = map-at f l k (le-of-suc-le-suc h)
-
 -- the place p of a count
 pub record Place (ps : List ℤ) (p : ℕ) : Type 0 where
   pub fits : Fits w64 p
@@ -162,7 +144,7 @@ module _ {ps : List ℤ} {v : ValidParams} {n : ℕ} (r : Ready ps v n) (i : ℕ
     pub edge-at : (k p x : ℕ) → k < v .channels → p ≡ i * v .channels + k → SFits w16 (getD ps p (pos 0)) → x ≡ edge w (raise (toZ w16 (ofZ w16 (getD ps p (pos 0)))) - down) → x ≡ getD (edgesOf w down (frame v (framesIn n (v .channels) ps) i)) k 0
     edge-at k p x l e f q =
         q ∙ ap (λ (z : ℤ). edge w (raise z - down)) (toZ-ofZ f ∙ sym (count-at k p l e))
-        ∙ sym (map-at (λ c. edge w (raise c - down)) F k (omega (arith, long)))
+        ∙ sym (at-map (λ c. edge w (raise c - down)) (pos 0) 0 F k (omega (arith, long)))
 
   -- compared with a block, from channel k on
   module _ (w : ℕ) (low : List ℕ) (four : length low ≡ 4) where
@@ -185,14 +167,14 @@ module _ {ps : List ℤ} {v : ValidParams} {n : ℕ} (r : Ready ps v n) (i : ℕ
       split : sameFrom k ≡ t && sameFrom (suc k)
       split =
           ap₂ sameNats (drop-cons (keyOf w F) k 0 (omega (arith, key-long))) (drop-cons (take (v .channels) low) k 0 (omega (arith, low-long)))
-          ∙ ap₂ (λ (x y : ℕ). eqb x y && sameFrom (suc k)) (map-at (λ c. edge w (raise c)) F k (omega (arith, long)) ∙ ap (λ (z : ℤ). edge w (raise z)) (count-at k p l e ∙ sym (toZ-ofZ f))) (getD-take (v .channels) low k 0 l)
+          ∙ ap₂ (λ (x y : ℕ). eqb x y && sameFrom (suc k)) (at-map (λ c. edge w (raise c)) (pos 0) 0 F k (omega (arith, long)) ∙ ap (λ (z : ℤ). edge w (raise z)) (count-at k p l e ∙ sym (toZ-ofZ f))) (getD-take (v .channels) low k 0 l)
           ∙ ap (λ (b : Bool). b && sameFrom (suc k)) (sym q)
 
       pub same-next : not t ≡ false → sameFrom (suc k) ≡ sameFrom k
-      same-next h = sym (split ∙ ap (λ (b : Bool). b && sameFrom (suc k)) (sym (not-not t) ∙ ap not h))
+      same-next h = sym (split ∙ ap (λ (b : Bool). b && sameFrom (suc k)) (not-turn t false h))
 
       pub same-stop : not t ≡ true → false ≡ sameFrom k
-      same-stop h = sym (split ∙ ap (λ (b : Bool). b && sameFrom (suc k)) (sym (not-not t) ∙ ap not h))
+      same-stop h = sym (split ∙ ap (λ (b : Bool). b && sameFrom (suc k)) (not-turn t true h))
 
       pub same-last : suc k ≡ v .channels → t ≡ sameFrom k
       same-last h = sym (split ∙ ap (λ (b : Bool). t && b) (sym (all-same (suc k) h)) ∙ and-true t)

@@ -2,19 +2,18 @@
 use mathlib.Core.Path.{_≡_, refl, sym, ap, ap₂, subst, _∙_}
 use mathlib.Core.Logic.{inr}
 use mathlib.Core.List.{List, [], _∷_, _++_, append-nil}
-use Prim.Native.Nat.{ℕ, zero, suc, _+_, _-_, _*_, _%_, _^_, _<_, _≤_}
+use Prim.Native.Nat.{ℕ, zero, suc, _+_, _-_, _*_, _^_, _<_, _≤_}
 use native.Mathlib.Omega.{arith}
 use lib.IntN.{ℤ}
 use lib.Pow.{pow-mono}
-use lib.ListN.{length, getD, take, replicate, length-append, length-map}
-use lib.Seq.{getD-take}
+use lib.ListN.{length, getD, length-append}
 use Rattle.lists.specs.Lists.{concat}
 use Rattle.lists.specs.Words.{over, column}
 use Rattle.lists.specs.CountLaws.{concat-append}
 use Rattle.lists.specs.WordLaws.{over-length, over-nil, over-next}
-use Rattle.lists.specs.PartLaws.{column-snoc, part-same}
+use Rattle.lists.specs.PartLaws.{column-snoc}
 use Rattle.hyperparams.specs.declared.ValidParams.{ValidParams}
-use Rattle.counting_tree.specs.Frames.{Frame, framesIn}
+use Rattle.counting_tree.specs.Frames.{framesIn}
 use Rattle.counting_tree.specs.FramesIn.{frame-length}
 use Rattle.counting_tree.specs.Geometry.{Geometry, frame}
 use Rattle.counting_tree.specs.Ready.{geometryAt, Ready, at-frames}
@@ -22,7 +21,7 @@ use Rattle.cells_grid.specs.Cells.{cells}
 use Rattle.cells_grid.specs.Arrangement.{cellAt, Arranged}
 use Rattle.cells_grid.specs.Ready.{ready-lawful}
 use Rattle.cells_grid.specs.ArrangementLaws.{cell-at-below, cells-le, first-word, arranged-over}
-use Rattle.cells_grid.specs.Blocks.{width, edge, edgesOf, shifted, blockAt, frameAt, raise}
+use Rattle.cells_grid.specs.Blocks.{blockAt, frameAt}
 use Rattle.cells_grid.specs.Listing.{reachOf, listIn, listOf, Hashed}
 use Rattle.cells_grid.specs.ListingLaws.{list-length, hashed-over}
 

@@ -2,22 +2,20 @@
 use mathlib.Core.Path.{_≡_, refl, sym, ap, ap₂, subst, _∙_}
 use mathlib.Core.Bool.{Bool, true, false, not, _&&_, cond, and-true, and-false}
 use mathlib.Core.List.{List, [], _∷_}
-use Prim.Native.Nat.{ℕ, zero, suc, _+_, _-_, _*_, _/_, _%_, _^_, _<_, _≤_, min}
-use native.Mathlib.Nat.{le-of-suc-le-suc, add-mul-mod-self-left}
+use Prim.Native.Nat.{ℕ, _+_, _-_, _*_, _%_, _^_, _<_, _≤_, min}
 use native.Mathlib.Omega.{arith}
 use lib.IntN.{ℤ}
 use lib.Dec.{T, leb, leb→le}
-use lib.ListN.{length, take, getD, replicate, length-map}
-use lib.Seq.{getD-take}
+use lib.ListN.{length, take, getD, replicate}
 use lib.Pow.{pow-mono}
 use Rattle.lists.specs.Lists.{numbers, howMany, total, Below}
 use Rattle.lists.specs.Words.{over, Clear}
-use Rattle.lists.specs.ListLaws.{and-right}
+use Rattle.lists.specs.ListLaws.{not-turn, and-right}
 use Rattle.lists.specs.CountLaws.{howMany-cons, length-concat}
 use Rattle.lists.specs.PermLaws.{perm-length}
 use Rattle.lists.specs.LoopLaws.{Sum, sum-start, sum-stop, sum-more, sum-end}
-use Rattle.lists.specs.PartLaws.{part-same, clear-within}
-use Rattle.lists.specs.Buckets.{keepDown, hashes, bucket, inBucket, Bucketed}
+use Rattle.lists.specs.PartLaws.{clear-within}
+use Rattle.lists.specs.Buckets.{hashOf, keepDown, hashes, bucket, inBucket, Bucketed}
 use Rattle.lists.specs.BucketLaws.{down-perm, Walk, walk-end, walk-cons, walk-next, bucket-start, bucket-next}
 use Rattle.hyperparams.specs.declared.ValidParams.{ValidParams}
 use Rattle.counting_tree.specs.Frames.{Frame, framesIn, squared}
@@ -32,20 +30,11 @@ use Rattle.cells_grid.specs.CellLaws.{first-in, number-cell}
 use Rattle.cells_grid.specs.Arrangement.{Arranged}
 use Rattle.cells_grid.specs.ArrangementLaws.{number-below, words-count, words-room, number-word, first-word}
 use Rattle.cells_grid.specs.Ready.{ready-lawful}
-use Rattle.cells_grid.specs.Blocks.{raise, width, edge, edgesOf, keyOf, shifted, blockAt, hashOf, sameNats, frameAt, inBlock, inBlocks, bucketOf, hashed, Hashed}
+use Rattle.cells_grid.specs.Blocks.{width, edgesOf, keyOf, shifted, blockAt, sameNats, frameAt, inBlock, inBlocks, bucketOf, hashed, Hashed}
 use Rattle.cells_grid.specs.Crowding.{every, neighbourIn, neighboursIn}
 use Rattle.cells_grid.specs.BlockLaws.{by-blocks}
 use Rattle.cells_grid.specs.HashLaws.{hash-bucket, chain-block, hashed-length, hashed-none, hashed-push, hashed-bucketed}
 use Rattle.cells_grid.proofs.Edges.{low-block, low-multiple}
-
--- what a test said of the contrary
-denied : (b : Bool) → not b ≡ true → b ≡ false
-denied true e = sym e
-denied false e = refl
-
-granted : (b : Bool) → not b ≡ false → b ≡ true
-granted true e = refl
-granted false e = sym e
 
 -- ---- along a chain: of the frames of bucket h `all` pass f, and `count` is how many there are with those before frame e - 1, `start` without any
 pub record Tally (f : ℕ → Bool) (bucketOf : ℕ → ℕ) (h m least all start count e : ℕ) : Type 0 where
@@ -190,14 +179,14 @@ module _ {ps : List ℤ} {v : ValidParams} {n i j : ℕ} {w : List ℕ} {own : �
       here = q ∙ ap (λ (z : ℕ). sameNats (keyOf z (frameAt (v .t) v n ps j)) es) e
 
       pub tests-block : not b ≡ true → false ≡ neighbourIn v n ps (take (v .channels) low) i j
-      tests-block a = not-here (geometryAt v n ps) i j (sameNats (keyOf (width (v .t)) (frameAt (v .t) v n ps j)) es) (sym here ∙ denied b a)
+      tests-block a = not-here (geometryAt v n ps) i j (sameNats (keyOf (width (v .t)) (frameAt (v .t) v n ps j)) es) (sym here ∙ not-turn b true a)
 
       pub tests-list : not b ≡ false → {u : Bool} → u ≡ geometryAt v n ps .within i j → not u ≡ false → {f : ℕ} → f ≡ first (geometryAt v n ps) j → {t : Bool} → t ≡ geometryAt v n ps .near own f
           → t ≡ neighbourIn v n ps (take (v .channels) low) i j
-      tests-list a {u} m c f r = r ∙ by-list (geometryAt v n ps) i j (sameNats (keyOf (width (v .t)) (frameAt (v .t) v n ps j)) es) (sym here ∙ granted b a) (sym m ∙ granted u c) (p .1 .0) f
+      tests-list a {u} m c f r = r ∙ by-list (geometryAt v n ps) i j (sameNats (keyOf (width (v .t)) (frameAt (v .t) v n ps j)) es) (sym here ∙ not-turn b false a) (sym m ∙ not-turn u false c) (p .1 .0) f
 
   pub tests-within : {u : Bool} → u ≡ geometryAt v n ps .within i j → not u ≡ true → false ≡ neighbourIn v n ps (take (v .channels) low) i j
-  tests-within {u} m c = not-within (geometryAt v n ps) i j (sameNats (keyOf (width (v .t)) (frameAt (v .t) v n ps j)) (take (v .channels) low)) (sym m ∙ denied u c)
+  tests-within {u} m c = not-within (geometryAt v n ps) i j (sameNats (keyOf (width (v .t)) (frameAt (v .t) v n ps j)) (take (v .channels) low)) (sym m ∙ not-turn u true c)
 
 -- ---- all frames are hashed, one after the other
 module _ {ps : List ℤ} {v : ValidParams} {n : ℕ} (w₀ : List ℕ) (p : Ready ps v n × (16 * n ≤ length w₀) × Clear w₀ (10 * n) (6 * n)) where

@@ -8,7 +8,7 @@ use lib.IntN.{ℤ}
 use lib.ListN.{length, getD, set, length-append}
 use Rattle.lists.specs.Lists.{keep}
 use Rattle.lists.specs.Words.{over}
-use Rattle.lists.specs.Buckets.{keepDown, bucket, inBucket, Bucketed}
+use Rattle.lists.specs.Buckets.{hashOf, keepDown, bucket, inBucket, Bucketed}
 use Rattle.lists.specs.BucketLaws.{Walk, walk-cons, walk-next, bucket-start, bucket-next}
 use Rattle.lists.specs.WordLaws.{over-length, over-nil, over-snoc}
 use Rattle.lists.specs.PartLaws.{get-under}
@@ -19,7 +19,7 @@ use Rattle.cells_grid.specs.Cells.{cells, cellNumber}
 use Rattle.cells_grid.specs.Arrangement.{Arranged}
 use Rattle.cells_grid.specs.Ready.{ready-lawful}
 use Rattle.cells_grid.specs.ArrangementLaws.{number-word}
-use Rattle.cells_grid.specs.Blocks.{width, keyOf, hashOf, sameNats, frameAt, bucketOf}
+use Rattle.cells_grid.specs.Blocks.{width, keyOf, sameNats, frameAt, bucketOf}
 use Rattle.cells_grid.specs.HashLaws.{hash-bucket, chain-block, hashed-bucketed}
 use Rattle.cells_grid.specs.Listing.{reachOf, firstCore, listIn, Hashed}
 use Rattle.cells_grid.specs.ListingLaws.{hashed-frames}

@@ -4,7 +4,7 @@ use mathlib.Core.Logic.{_⊎_, inl, inr}
 use mathlib.Core.Bool.{Bool, true, false, not, _&&_, cond, and-true, and-false}
 use mathlib.Core.List.{List, [], _∷_, _++_, map, List·Permᴰ, List·Permᴰ·nil, List·Permᴰ·cons, List·Permᴰ·trans, Permᴰ·refl, Permᴰ·append-left, Permᴰ·append-right, Permᴰ·middle}
 use Prim.Native.Nat.{ℕ, zero, suc, _+_, _-_, _*_, _/_, _%_, _^_, _<_, _≤_}
-use native.Mathlib.Nat.{mod-lt, mod-le, mod-eq-of-lt, add-mod, add-mod-right, zero-add, div-add-mod', mul-mod-left, mul-le-mul, suc-mul, mul-suc, pow-suc, zero-mod, add-mul-mod-self-left}
+use native.Mathlib.Nat.{mod-lt, mod-le, mod-eq-of-lt, add-mod, add-mod-right, zero-add, div-add-mod', mul-mod-left, pow-suc, zero-mod, add-mul-mod-self-left}
 use native.Mathlib.Omega.{arith}
 use lib.IntN.{ℤ, pos, negsuc, _+ℤ_}
 use lib.Signed.{mag}
@@ -12,16 +12,17 @@ use lib.Dec.{T, T-not, leb, eqb, leb→le, nleb→lt, eqb→eq, eqb-refl}
 use lib.ListN.{length, take, getD}
 use lib.Pow.{pow-pos}
 use borrow.Author.Tests.{le-ltb, eq-eqb, ne-eqb}
+use Rattle.ring.specs.Nat.{sq-le-back}
 use Rattle.lists.specs.Lists.{numbers, keep, concat, In, Ascending}
-use Rattle.lists.specs.Buckets.{keepDown, mix, hashes}
-use Rattle.lists.specs.BucketLaws.{mix-below, down-perm}
+use Rattle.lists.specs.Buckets.{keepDown}
+use Rattle.lists.specs.BucketLaws.{down-perm}
 use Rattle.lists.specs.ListLaws.{true-T, T-or-not, both-ways, and-left, and-right, keep-same, map-same, numbers-in, in-numbers}
 use Rattle.lists.specs.CountLaws.{keep-none}
 use Rattle.lists.specs.OrderLaws.{numbers-ascending}
 use Rattle.hyperparams.specs.declared.ValidParams.{ValidParams}
 use Rattle.counting_tree.specs.Frames.{Frame, apart, squared}
 use Rattle.counting_tree.specs.FramesIn.{frame-length}
-use Rattle.cells_grid.specs.Blocks.{raise, width, edge, keyOf, shifted, blockAt, hashFrom, sameNats, frameAt, inBlock, inBlocks}
+use Rattle.cells_grid.specs.Blocks.{raise, width, edge, keyOf, shifted, blockAt, sameNats, frameAt, inBlock, inBlocks}
 
 -- ---- raised counts
 -- raising makes no two counts farther apart
@@ -30,10 +31,6 @@ raise-near (pos a) (pos b) = omega arith
 raise-near (pos a) (negsuc b) = omega arith
 raise-near (negsuc a) (pos b) = omega arith
 raise-near (negsuc a) (negsuc b) = omega arith
-
-pub raise-below : (c : ℤ) → mag c < 32768 → raise c < 65536
-raise-below (pos n) h = omega arith
-raise-below (negsuc n) h = omega arith
 
 -- as the program raises it
 pub raise-is : (c : ℤ) (x : ℕ) → mag c < 32768 → pos x ≡ c +ℤ pos 32768 → x ≡ raise c
@@ -107,11 +104,6 @@ concat-perm : (f g : ℕ → List ℕ) (xs : List ℕ) → ((x : ℕ) → In x x
 concat-perm f g [] e = List·Permᴰ·nil
 concat-perm f g (x ∷ xs) e = List·Permᴰ·trans (Permᴰ·append-right (concat (map f xs)) (e x (inl refl))) (Permᴰ·append-left (g x) (concat-perm f g xs (λ y i. e y (inr i))))
 
--- ---- hashes
-pub hash-below : (h : ℕ) (es : List ℕ) → h < hashes → hashFrom h es < hashes
-hash-below h [] l = l
-hash-below h (e ∷ es) l = hash-below (mix h e) es (mix-below h e)
-
 -- ---- blocks
 same-eqb : (a b c d : ℕ) → (a ≡ b → c ≡ d) → (c ≡ d → a ≡ b) → eqb a b ≡ eqb c d
 same-eqb a b c d f g = both-ways (eqb a b) (eqb c d) (λ t. true-T (eq-eqb c d (f (eqb→eq a b t)))) (λ t. true-T (eq-eqb a b (g (eqb→eq c d t))))
@@ -129,20 +121,11 @@ Within reach [] (b ∷ g) = ⊥
 Within reach (a ∷ f) [] = ⊥
 Within reach (a ∷ f) (b ∷ g) = ((raise a - raise b) + (raise b - raise a) ≤ reach) × Within reach f g
 
-root-le : (a r : ℕ) → a * a ≤ r * r → a ≤ r
-root-le a r h = elim (T-or-not (leb a r)) [
-  | inl t ↦ leb→le a r t
-  | inr f ↦ let l : suc r ≤ a = nleb→lt a r f in absurd (omega (arith, h, mul-le-mul l l, step r))
-]
-  where
-    step : (r : ℕ) → r * r < suc r * suc r
-    step r = omega (arith, suc-mul r (suc r), mul-suc r r)
-
 pub within-of : (reach : ℕ) (f g : Frame) → length f ≡ length g → squared f g ≤ reach * reach → Within reach f g
 within-of reach [] [] e h = tt
 within-of reach [] (b ∷ g) e h = absurd (omega arith)
 within-of reach (a ∷ f) [] e h = absurd (omega arith)
-within-of reach (a ∷ f) (b ∷ g) e h = (omega (arith, raise-near a b, root-le (apart a b) reach (omega arith)), within-of reach f g (omega arith) (omega arith))
+within-of reach (a ∷ f) (b ∷ g) e h = (omega (arith, raise-near a b, sq-le-back (apart a b) reach (omega arith)), within-of reach f g (omega arith) (omega arith))
 
 module _ (reach : ℕ) where
   abbrev w : ℕ

@@ -1,5 +1,6 @@
 -- Frames by blocks of counts, and the frames in the blocks around a frame. Definitions only.
--- A block begins at a multiple of its width in each channel. Counts at most `reach` from a count lie in two blocks of the width 2 × reach + 1.
+-- A block begins at a multiple of its width in each channel. Counts at most `reach` from a count lie in one of two blocks of the width 2 × reach + 1:
+-- so 2^channels blocks are around a frame.
 use mathlib.Core.Path.{_≡_}
 use mathlib.Core.Bool.{Bool, true, false, _&&_, cond}
 use mathlib.Core.List.{List, [], _∷_, map}
@@ -8,7 +9,7 @@ use lib.IntN.{ℤ, pos, negsuc}
 use lib.Dec.{eqb}
 use Rattle.lists.specs.Lists.{concat}
 use Rattle.lists.specs.Words.{over, part, column}
-use Rattle.lists.specs.Buckets.{lastWith, keepDown, mix, bucket, inBucket}
+use Rattle.lists.specs.Buckets.{lastWith, keepDown, mix, hashOf, bucket, inBucket}
 use Rattle.hyperparams.specs.declared.ValidParams.{ValidParams}
 use Rattle.counting_tree.specs.Frames.{Frame, framesIn}
 use Rattle.counting_tree.specs.Geometry.{frame}
@@ -42,15 +43,6 @@ shifted w (e ∷ es) m = (e + w * (m % 2)) ∷ shifted w es (m / 2)
 -- block m of those around a frame
 abbrev pub blockAt : ℕ → Frame → ℕ → List ℕ
 blockAt reach f m = shifted (width reach) (edgesOf (width reach) reach f) m
-
--- the hash h, gone on with the numbers of a list
-abbrev pub hashFrom : ℕ → List ℕ → ℕ
-hashFrom h [] = h
-hashFrom h (e ∷ es) = hashFrom (mix h e) es
-
--- the hash of a block
-abbrev pub hashOf : List ℕ → ℕ
-hashOf es = hashFrom 0 es
 
 -- whether two blocks are the same
 abbrev pub sameNats : List ℕ → List ℕ → Bool
@@ -91,7 +83,7 @@ module _ (reach : ℕ) (v : ValidParams) (n : ℕ) (ps : List ℤ) where
     unfolding bucketOf
     nextOf j = cond (p j) (lastWith (inBucket bucketOf (bucketOf j)) j) 0
 
-    -- the words w with the frames below m hashed: from 10n the buckets, from 14n the frame before each in its bucket
+    -- the words w with the frames below m hashed: from 10n the head of each bucket, from 14n the frame before each in its bucket
     unfoldable pub hashed : ℕ → List ℕ → List ℕ
     unfolding headsOf nextOf
     hashed m w = over (over w (10 * n) (headsOf m)) (14 * n) (column nextOf m)

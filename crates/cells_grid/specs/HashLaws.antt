@@ -13,14 +13,14 @@ use lib.Seq.{set-getD}
 use borrow.Author.Tests.{eq-eqb, ne-eqb}
 use Rattle.lists.specs.Lists.{numbers, keep}
 use Rattle.lists.specs.Words.{over, column, Clear}
-use Rattle.lists.specs.Buckets.{lastWith, keepDown, bucket, inBucket, Bucketed}
-use Rattle.lists.specs.BucketLaws.{bucket-below, last-more}
+use Rattle.lists.specs.Buckets.{lastWith, keepDown, hashOf, bucket, inBucket, Bucketed}
+use Rattle.lists.specs.BucketLaws.{hash-below, bucket-below, last-more}
 use Rattle.lists.specs.ListLaws.{T-true, map-same, in-numbers, length-numbers, at-numbers}
 use Rattle.lists.specs.WordLaws.{over-length, over-nil, over-next, over-apart, over-again, set-over, set-laid, over-snoc}
 use Rattle.lists.specs.PartLaws.{part-under, part-above, part-same, column-snoc, column-set, column-replicate, get-under, get-laid, get-above, clear-over, holds-at}
 use Rattle.hyperparams.specs.declared.ValidParams.{ValidParams}
-use Rattle.cells_grid.specs.Blocks.{width, keyOf, hashOf, sameNats, frameAt, bucketOf, headsOf, nextOf, hashed, Hashed}
-use Rattle.cells_grid.specs.BlockLaws.{hash-below, same-nats}
+use Rattle.cells_grid.specs.Blocks.{width, keyOf, sameNats, frameAt, bucketOf, headsOf, nextOf, hashed, Hashed}
+use Rattle.cells_grid.specs.BlockLaws.{same-nats}
 
 -- ---- descending numbers that pass one test and then another
 pub keep-down : (q f : ℕ → Bool) (m : ℕ) → keep q (keepDown f m) ≡ keepDown (λ j. f j && q j) m

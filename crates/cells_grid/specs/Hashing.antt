@@ -1,8 +1,9 @@
 -- The bucket in which the indexes of a frame fall, and those of a cell. Definitions only.
-use mathlib.Core.List.{List}
+use mathlib.Core.List.{List, [], _∷_}
 use Prim.Native.Nat.{ℕ, _-_, _%_}
 use lib.IntN.{ℤ, pos, negsuc}
 use lib.ListN.{getD}
+use Rattle.lists.specs.Buckets as Buckets
 use Rattle.lists.specs.Buckets.{mix, bucket}
 use Rattle.hyperparams.specs.declared.ValidParams.{ValidParams}
 use Rattle.counting_tree.specs.Frames.{framesIn}
@@ -20,7 +21,7 @@ natural (negsuc a) = 4294967295 - a % 2147483648
 -- the hash of four indexes, from channel 0 up
 unfoldable pub hashOf : List ℤ → ℕ
 unfolding mix natural
-hashOf at = mix (mix (mix (mix 0 (natural (getD at 0 (pos 0)))) (natural (getD at 1 (pos 0)))) (natural (getD at 2 (pos 0)))) (natural (getD at 3 (pos 0)))
+hashOf at = Buckets.hashOf (natural (getD at 0 (pos 0)) ∷ natural (getD at 1 (pos 0)) ∷ natural (getD at 2 (pos 0)) ∷ natural (getD at 3 (pos 0)) ∷ [])
 
 module _ (v : ValidParams) (n : ℕ) (ps : List ℤ) where
   -- the bucket, of n, of frame i's indexes at the base side

@@ -1,14 +1,14 @@
 -- Laws of the buckets of cells: they are in range, and frames of one cell have one bucket.
-use mathlib.Core.Path.{_≡_, ap, _∙_}
-use mathlib.Core.List.{List}
+use mathlib.Core.Path.{_≡_, refl, ap, _∙_}
+use mathlib.Core.List.{List, [], _∷_}
 use Prim.Native.Nat.{ℕ, _<_}
 use native.Mathlib.Omega.{arith}
 use lib.IntN.{ℤ, pos}
 use lib.Dec.{T}
 use lib.ListN.{getD}
 use lib.Ieee.{Float}
-use Rattle.lists.specs.Buckets.{hashes, mix, bucket}
-use Rattle.lists.specs.BucketLaws.{mix-below, bucket-below}
+use Rattle.lists.specs.Buckets.{hashes, bucket}
+use Rattle.lists.specs.BucketLaws.{hash-below, bucket-below}
 use Rattle.hyperparams.specs.declared.ValidParams.{ValidParams}
 use Rattle.counting_tree.specs.Frames.{framesIn}
 use Rattle.counting_tree.specs.Grid.{sideAt, indexes}
@@ -19,19 +19,17 @@ use Rattle.counting_tree.specs.Sound.{same-indexes}
 use Rattle.cells_grid.specs.Cells.{sameCell}
 use Rattle.cells_grid.specs.Hashing.{natural, hashOf, frameBucket}
 
-pub hash-below : (at : List ℤ) → hashOf at < hashes
-unfolding hashOf
-hash-below at = mix-below (mix (mix (mix 0 (natural (getD at 0 (pos 0)))) (natural (getD at 1 (pos 0)))) (natural (getD at 2 (pos 0)))) (natural (getD at 3 (pos 0)))
-
 pub hash-fits : {x : ℕ} (at : List ℤ) → x ≡ hashOf at → x < hashes
-hash-fits at e = omega (arith, e, hash-below at)
+unfolding hashOf
+hash-fits at e =
+    omega (arith, e, hash-below 0 (natural (getD at 0 (pos 0)) ∷ natural (getD at 1 (pos 0)) ∷ natural (getD at 2 (pos 0)) ∷ natural (getD at 3 (pos 0)) ∷ []) (omega arith))
 
 module _ (v : ValidParams) (n : ℕ) (ps : List ℤ) where
   pub frame-bucket-below : (i : ℕ) → 0 < n → frameBucket v n ps i < n
   unfolding frameBucket
   frame-bucket-below i h =
       let at : List ℤ = placed (indexes (sideAt (v .channels) (v .tolerance) 0) (frame v (framesIn n (v .channels) ps) i)) in
-      bucket-below n (hashOf at) (hash-below at) h
+      bucket-below n (hashOf at) (hash-fits at refl) h
 
   pub same-bucket : (i j : ℕ) → T (sameCell (geometryAt v n ps) i j) → frameBucket v n ps i ≡ frameBucket v n ps j
   unfolding frameBucket geometryOf side

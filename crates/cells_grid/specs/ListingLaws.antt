@@ -1,7 +1,7 @@
 -- Laws of the list of a cell: it has the core cells that the cell lists, each once, in some order; and what writing and clearing words does to the hashed cells.
 use mathlib.Core.Path.{_≡_, refl, sym, ap, subst, _∙_}
 use mathlib.Core.Logic.{_⊎_}
-use mathlib.Core.Bool.{Bool, true, false, _&&_}
+use mathlib.Core.Bool.{Bool, _&&_, and-assoc}
 use mathlib.Core.List.{List, [], _∷_, _++_, map, map-append, map-map, map-id, List·Permᴰ, Permᴰ·map}
 use Prim.Native.Nat.{ℕ, _+_, _*_, _^_, _<_, _≤_}
 use native.Mathlib.Nat.{add-mul, mul-add}
@@ -9,12 +9,12 @@ use native.Mathlib.Omega.{arith}
 use lib.IntN.{ℤ}
 use lib.Dec.{T, leb→le}
 use lib.ListN.{length, replicate, length-replicate}
-use Rattle.lists.specs.Lists.{numbers, keep, concat, total, In, Below}
+use Rattle.lists.specs.Lists.{numbers, keep, concat, In}
 use Rattle.lists.specs.Words.{over, Clear}
 use Rattle.lists.specs.ListLaws.{and-left, and-right, and-both, in-keep, keep-in, keep-same, map-same, in-numbers, numbers-in}
-use Rattle.lists.specs.CountLaws.{keep-all, keep-keep, keep-map, total-bool}
+use Rattle.lists.specs.CountLaws.{keep-keep, keep-map}
 use Rattle.lists.specs.OrderLaws.{kept-le}
-use Rattle.lists.specs.PermLaws.{perm-same, perm-total}
+use Rattle.lists.specs.PermLaws.{perm-same, perm-length}
 use Rattle.lists.specs.WordLaws.{over-again}
 use Rattle.lists.specs.PartLaws.{clear-over, clear-within}
 use Rattle.hyperparams.specs.declared.ValidParams.{ValidParams}
@@ -33,9 +33,6 @@ use Rattle.cells_grid.specs.Listing.{reachOf, firstCore, listIn, listOf,
 -- words laid over words that are 0, and made 0 again
 laid-cleared : (w : List ℕ) (a : ℕ) (ws : List ℕ) (m : ℕ) → m ≡ length ws → a + m ≤ length w → Clear w a m → over (over w a ws) a (replicate m 0) ≡ w
 laid-cleared w a ws m e h z = over-again w a ws (replicate m 0) (omega arith) (length-replicate m 0 ∙ e) ∙ clear-over w a m h z
-
-each-one : (xs : List ℕ) → total (λ x. 1) xs ≡ length xs
-each-one xs = total-bool (λ x. true) xs ∙ ap length (keep-all (λ x. true) xs (λ x i. tt))
 
 -- what is mapped list by list
 map-concat : {A B : Type 0} (f : A → B) (h : ℕ → List A) (xs : List ℕ) → map f (concat (map h xs)) ≡ concat (map (λ x. map f (h x)) xs)
@@ -90,7 +87,7 @@ module _ {ps : List ℤ} {v : ValidParams} {n : ℕ} (r : Ready ps v n) where
     unfolding cells
     by-number =
         ap (λ (m : ℕ). map (cellNumber g) (keep f (numbers m))) (sym (at-frames v n ps))
-        ∙ ap (map (cellNumber g)) (keep-same f (λ j. isCell g j && (coreCell g j && g .near i j)) (numbers (g .frames)) (λ j l. group (isCell g j) (coreCell g j) (g .near i j))
+        ∙ ap (map (cellNumber g)) (keep-same f (λ j. isCell g j && (coreCell g j && g .near i j)) (numbers (g .frames)) (λ j l. and-assoc (isCell g j) (coreCell g j) (g .near i j))
         ∙ sym (keep-keep (λ j. coreCell g j && g .near i j) (isCell g) (numbers (g .frames)))
         ∙ ap (keep (λ j. coreCell g j && g .near i j)) (cells-by-number g)
         ∙ keep-map (λ j. coreCell g j && g .near i j) (cellAt g) (numbers k)
@@ -98,10 +95,6 @@ module _ {ps : List ℤ} {v : ValidParams} {n : ℕ} (r : Ready ps v n) where
         ∙ map-map (cellNumber g) (cellAt g) L
         ∙ map-same (λ d. cellNumber g (cellAt g d)) (λ d. d) L (λ d l. number-at g d (in-numbers k d (in-keep (λ d. coreCell g (cellAt g d) && listed g i (cellAt g d)) d (numbers k) l .0)))
         ∙ map-id L
-      where
-        group : (a b c : Bool) → (a && b) && c ≡ a && (b && c)
-        group true b c = refl
-        group false b c = refl
 
     -- the core cells that cell c lists, each once
     pub list-order : List·Permᴰ (listOf v n ps c)
@@ -109,7 +102,7 @@ module _ {ps : List ℤ} {v : ValidParams} {n : ℕ} (r : Ready ps v n) where
     list-order = subst (λ (l : List ℕ). List·Permᴰ l L) (sym list-frames) (subst (List·Permᴰ (map (cellNumber g) (inBlocks (reachOf v) v n ps i f))) by-number (Permᴰ·map (cellNumber g) found-order))
 
     pub list-length : length (listOf v n ps c) ≤ length (cells (geometryAt v n ps))
-    list-length = omega (arith, each-one (listOf v n ps c), each-one L, perm-total (λ x. 1) list-order, kept-le (λ d. coreCell g (cellAt g d) && listed g i (cellAt g d)) k)
+    list-length = omega (arith, perm-length list-order, kept-le (λ d. coreCell g (cellAt g d) && listed g i (cellAt g d)) k)
 
     -- each cell on it is a core cell that cell c lists
     pub list-sound : (d : ℕ) → In d (listOf v n ps c)
@@ -122,9 +115,6 @@ module _ {ps : List ℤ} {v : ValidParams} {n : ℕ} (r : Ready ps v n) where
     pub list-complete : (d : ℕ) → d < length (cells (geometryAt v n ps)) → T (coreCell (geometryAt v n ps) (cellAt (geometryAt v n ps) d))
         → T (listed (geometryAt v n ps) (cellAt (geometryAt v n ps) c) (cellAt (geometryAt v n ps) d)) → In d (listOf v n ps c)
     list-complete d l a b = perm-same list-order d .1 (keep-in (λ d. coreCell g (cellAt g d) && listed g i (cellAt g d)) d (numbers k) (numbers-in k d l) (and-both (coreCell g (cellAt g d)) (listed g i (cellAt g d)) a b))
-
-    pub list-below : Below (length (cells (geometryAt v n ps))) (listOf v n ps c)
-    list-below d l = list-sound d l .0
 
     -- a list that was written over words that are 0, and cleared
     pub list-cleared : (w : List ℕ) → 16 * n ≤ length w → Clear w (15 * n) n → over (over w (15 * n) (listOf v n ps c)) (15 * n) (replicate (length (listOf v n ps c)) 0) ≡ w

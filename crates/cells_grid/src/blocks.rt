@@ -1,5 +1,6 @@
 // Blocks of counts: the blocks around a frame, and frames hashed by their blocks.
-// From 10n on stand 4n buckets, from 14n on for each frame the one before it in its bucket: one more than its number, 0 for none.
+// From 10n on stand the heads of 4n buckets, the last frame hashed into each; from 14n on, for each frame, the one before it in its bucket.
+// A word is one more than a frame's number, 0 for none.
 use hyperparams::ValidParams;
 use lists::Word;
 ghost use mathlib.Core.Path.{_≡_};
@@ -9,10 +10,10 @@ ghost use lib.Dec.{eqb};
 ghost use lib.ListN.{length, getD, take, replicate};
 ghost use Rattle.lists.specs.Lists.{Below};
 ghost use Rattle.lists.specs.Words.{over};
-ghost use Rattle.lists.specs.Buckets.{hashes, bucket};
+ghost use Rattle.lists.specs.Buckets.{hashes, hashOf, bucket};
 ghost use Rattle.counting_tree.specs.Ready.{Ready};
 ghost use Rattle.cells_grid.specs.Blocks as Definitions;
-ghost use Rattle.cells_grid.specs.Blocks.{raise, edgesOf, keyOf, shifted, hashOf, sameNats};
+ghost use Rattle.cells_grid.specs.Blocks.{raise, edgesOf, keyOf, shifted, sameNats};
 ghost use Rattle.counting_tree.specs.Frames.{framesIn};
 ghost use Rattle.counting_tree.specs.Geometry.{frame};
 

@@ -1,4 +1,4 @@
-// Whether a frame has enough frames near it. All frames are hashed by blocks of the reach t: so the frames within the tolerance of a frame lie in the blocks around it.
+// Whether a frame has enough frames near it. All frames are hashed by blocks 2 × t + 1 wide: so the frames within the tolerance of a frame lie in the blocks around it, two a channel.
 use super::blocks::HEADS;
 use super::blocks::NEXTS;
 use super::blocks::block;

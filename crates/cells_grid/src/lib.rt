@@ -1,13 +1,14 @@
 // Cells, their lists and their core frames (CellsGrid and Cell of the source), in words of one lent slice.
 // `v` has the settings, `n` is the number of frames, `k` the number of cells. A cell has a number; frame i's is at i,
-// and each of the other regions has one word a frame too.
+// and each of the regions below has one word a frame too. From 10n up to 16n each phase finds words that are 0 and leaves them so:
+// `inserting`, `blocks` and `listing` say what stands there meanwhile.
 use hyperparams::ValidParams;
 use lists::Word;
 ghost use mathlib.Core.Path.{_≡_};
 ghost use Prim.Native.Nat.{_+_, _*_, _<_, _≤_};
 ghost use lib.Dec.{eqb};
 ghost use lib.ListN.{length, getD};
-ghost use Rattle.lists.specs.Lists.{numbers, howMany};
+ghost use Rattle.lists.specs.Lists.{howMany};
 ghost use Rattle.lists.specs.Words.{over, column, Clear};
 ghost use Rattle.counting_tree.specs.Domain.{Counts};
 ghost use Rattle.counting_tree.specs.Ready.{geometryAt, Ready};

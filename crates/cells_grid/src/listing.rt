@@ -1,4 +1,5 @@
-// The core cells that a cell lists. Their first frames are hashed by their blocks, from 10n on; from 15n on stands the list of one cell.
+// The core cells that a cell lists. The first frames of core cells are hashed by blocks 4 × t + 1 wide: so those near a frame lie in the blocks around it.
+// From 10n up to 15n stand the hashed frames, from 15n on the list of one cell.
 use super::blocks::HEADS;
 use super::blocks::NEXTS;
 use super::blocks::block;
@@ -25,8 +26,8 @@ ghost use Rattle.cells_grid.specs.Blocks as Blocks;
 ghost use Rattle.cells_grid.specs.Blocks.{keyOf, sameNats};
 ghost use Rattle.cells_grid.specs.Listing.{reachOf, listIn, heads, nexts, listOf, Hashed};
 
-// From 5n on: the place of the tree of each core cell, 0 for a cell that is none.
-const TREES: usize = 5;
+// From 5n on: one more than the number of the first node of each core cell's tree, 0 for a cell that is none.
+pub const TREES: usize = 5;
 
 pub const LIST: usize = 15;
 

@@ -1,7 +1,7 @@
 -- What the words that hold a run's cells and trees say of them.
 use mathlib.Core.Path.{_≡_, sym, ap, _∙_, subst}
 use mathlib.Core.Logic.{inl, inr}
-use mathlib.Core.Bool.{Bool, true, false, not, Bool·not-not}
+use mathlib.Core.Bool.{Bool, true, false, not}
 use mathlib.Core.List.{List}
 use Prim.Native.Nat.{ℕ, _+_, _*_, _<_, _≤_}
 use native.Mathlib.Omega.{arith}
@@ -10,7 +10,7 @@ use lib.IntN.{ℤ}
 use lib.ListN.{length, drop, getD, length-take, length-drop}
 use Rattle.lists.specs.Lists.{nonzero}
 use Rattle.lists.specs.Words.{part, column}
-use Rattle.lists.specs.ListLaws.{T-false, T-or-not, length-numbers}
+use Rattle.lists.specs.ListLaws.{T-false, T-or-not, not-turn, length-numbers}
 use Rattle.hyperparams.specs.declared.ValidParams.{ValidParams}
 use Rattle.counting_tree.specs.Geometry.{Geometry}
 use Rattle.counting_tree.specs.Ready.{geometryAt, Ready, at-frames}
@@ -22,9 +22,6 @@ use Rattle.cells_grid.specs.ArrangementLaws.{words-count, number-word, number-b
 use Rattle.core_cells.specs.Forest.{Grown}
 use Rattle.core_cells.specs.ForestLaws.{word-room, has-tree, no-tree-node}
 use Rattle.clustering.specs.Uniting.{pairAt}
-
-pub not-turn : (a b : Bool) → not a ≡ b → a ≡ not b
-not-turn a b e = sym (Bool·not-not a) ∙ ap not e
 
 -- a cell with a non-zero count has a tree
 pub counted-core : (g : Geometry) (i c : ℕ) → T (nonzero (count g i (cellAt g c))) → T (coreCell g (cellAt g c))

@@ -12,6 +12,7 @@ use borrow.Rule.Slice.PartMut.{putMid}
 use Rattle.lists.specs.Words.{over, part}
 use Rattle.lists.specs.WordLaws.{over-self, over-again, over-length}
 use Rattle.lists.specs.PartLaws.{part-length, part-same}
+use Rattle.lists.specs.ListLaws.{not-turn}
 use Rattle.hyperparams.specs.Params.{maxFrames}
 use Rattle.hyperparams.specs.declared.ValidParams.{ValidParams}
 use Rattle.counting_tree.specs.Geometry.{Geometry}
@@ -25,7 +26,7 @@ use Rattle.partitions.specs.Trials.{Outcome, run, byLeaders}
 use Rattle.partitions.specs.TrialLaws.{run-pass, run-try, run-stop}
 use Rattle.clustering.specs.Clusters.{touches}
 use Rattle.clustering.specs.Uniting.{pairAt, onePair, touchAt, stopped}
-use Rattle.clustering.proofs.Held.{not-turn, few-cells}
+use Rattle.clustering.proofs.Held.{few-cells}
 use Rattle.clustering.proofs.Lent.{lent, lent-length, back}
 
 -- ---- the definition's step

@@ -3,6 +3,7 @@
 // `v` has the settings, `n` is the number of frames, `k` the number of cells.
 use cells_grid::PLACES;
 use cells_grid::STARTS;
+use cells_grid::listing::TREES;
 use hyperparams::ValidParams;
 use lists::Word;
 use tree_structure::Counted;
@@ -24,9 +25,7 @@ ghost use Rattle.core_cells.specs.Forest.{coreAmong, CanGather, treeSize
 ghost use Rattle.core_cells.specs.Nearest.{lookedTo, CanLook, beyond, leastUntil, outOfReach};
 
 // The regions, of one word a frame: from 5n on where the tree of each cell begins, from 10n on the core frames of one cell,
-// from 11n and 12n on what building its tree needs. From 16n on the nodes, of four words.
-const TREES: usize = 5;
-
+// from 11n and 12n on what building its tree needs; these three are 0 before and after. From 16n on the nodes, of four words.
 const GATHERED: usize = 10;
 
 const COPY: usize = 11;

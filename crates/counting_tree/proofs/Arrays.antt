@@ -1,9 +1,9 @@
--- Arrays against the definitions: one coordinate more of a sum, of a corner; four elements, and the centre of a box; the rows of the corners, and one row more of their scan.
+-- Arrays against the definitions: one coordinate more of a sum, of a corner; four counts, and the centre of a box; the rows of the corners, and one row more of their scan.
 use mathlib.Core.Path.{_≡_, refl, sym, ap, ap₂, _∙_}
 use mathlib.Core.Bool.{Bool, cond}
-use mathlib.Core.List.{List, [], _∷_, map, map-map}
+use mathlib.Core.List.{List, [], _∷_, map, map-map, map-id}
 use Prim.Native.Nat.{ℕ, zero, suc, _+_, _*_, _/_, _%_, _^_, _≤_, _<_}
-use native.Mathlib.Nat.{not-suc-le-zero, le-of-suc-le-suc, pow-succ'}
+use native.Mathlib.Nat.{pow-succ'}
 use native.Mathlib.Numerals.{add-one}
 use native.Mathlib.Omega.{arith}
 use lib.Dec.{eqb, lit≤}
@@ -16,8 +16,9 @@ use lib.Ieee.{Float, nan, binary64, ofBits, add, sub, mul, lt}
 use mir.Syntax.{w16}
 use mir.Val.{toZ, ofZ}
 use Rattle.lists.specs.Lists.{from, numbers}
-use Rattle.lists.specs.ListLaws.{length-numbers}
-use Rattle.lists.specs.Words.{over, column}
+use Rattle.lists.specs.ListLaws.{at-map, length-numbers}
+use Rattle.lists.specs.Words.{column}
+use Rattle.lists.specs.WordLaws.{four-over}
 use Rattle.lists.specs.PartLaws.{part-same}
 use Rattle.hyperparams.specs.Params.{float}
 use Rattle.counting_tree.specs.Grid.{index, centre, indexes, centres}
@@ -53,10 +54,6 @@ column-from f d xs a (suc n) h =
 pub column-take : {A B : Type 0} (f : A → B) (d : A) (xs : List A) (n : ℕ) → n ≤ length xs → column (λ (i : ℕ). f (getD xs i d)) n ≡ map f (take n xs)
 column-take f d xs n h = column-from f d xs 0 n (omega arith)
 
-map-self : {A : Type 0} (l : List A) → map (λ (x : A). x) l ≡ l
-map-self [] = refl
-map-self (x ∷ l) = ap (λ (r : List _). x ∷ r) (map-self l)
-
 -- ---- one corner, coordinate by coordinate
 corner-long : (r : List Float) (e : Float) (k : ℕ) → length (cornerOf r e k) ≡ length r
 unfolding cornerOf
@@ -73,7 +70,7 @@ abbrev pub cornerAt : List Float → Float → ℕ → ℕ → Float
 cornerAt r e k i = getD (cornerOf r e k) i nan
 
 pub corner-column : (r : List Float) (e : Float) (k n : ℕ) → n ≤ length r → column (cornerAt r e k) n ≡ cornerOf (take n r) e k
-corner-column r e k n h = column-take (λ (x : Float). x) nan (cornerOf r e k) n (omega (arith, corner-long r e k)) ∙ map-self (take n (cornerOf r e k)) ∙ corner-take n r e k
+corner-column r e k n h = column-take (λ (x : Float). x) nan (cornerOf r e k) n (omega (arith, corner-long r e k)) ∙ map-id (take n (cornerOf r e k)) ∙ corner-take n r e k
 
 -- b is what is left of k's bits at coordinate i
 module _ (r : List Float) (e : Float) (k i b : ℕ) (lt : i < length r) (at : drop i (cornerOf r e k) ≡ cornerOf (drop i r) e b) where
@@ -160,23 +157,10 @@ module _ (n m : ℕ) (qs : List Float) (all : List (List Float)) (long : m ≤ l
   unfolding farthestFrom
   scan-done far k h = let j : length (take m all) ≤ k = omega (arith, length-take-le m all long) in rw (drop-of-length-le (take m all) j)
 
--- ---- at most four elements as they stand in an array, z after them
-four-over : {A : Type 0} (z : A) (ys : List A) (a b c d : A) → length ys ≤ 4 → a ≡ getD ys 0 z → b ≡ getD ys 1 z → c ≡ getD ys 2 z → d ≡ getD ys 3 z → a ∷ b ∷ c ∷ d ∷ [] ≡ over (replicate 4 z) 0 ys
-four-over z [] a b c d h e f g i = rw (e, f, g, i)
-four-over z (w ∷ []) a b c d h e f g i = rw (e, f, g, i)
-four-over z (w ∷ x ∷ []) a b c d h e f g i = rw (e, f, g, i)
-four-over z (w ∷ x ∷ y ∷ []) a b c d h e f g i = rw (e, f, g, i)
-four-over z (w ∷ x ∷ y ∷ u ∷ []) a b c d h e f g i = rw (e, f, g, i)
-four-over z (w ∷ x ∷ y ∷ u ∷ t ∷ l) a b c d h e f g i = absurd (omega arith)
-
+-- ---- at most four counts as they stand in an array
 pub four-placed : (ys : List ℤ) (a b c d : ℤ) → length ys ≤ 4 → a ≡ getD ys 0 (pos 0) → b ≡ getD ys 1 (pos 0) → c ≡ getD ys 2 (pos 0) → d ≡ getD ys 3 (pos 0) → a ∷ b ∷ c ∷ d ∷ [] ≡ placed ys
 unfolding placed
 four-placed = four-over (pos 0)
-
-pub at-map : {A B : Type 0} (f : A → B) (d : A) (e : B) (l : List A) (k : ℕ) → k < length l → getD (map f l) k e ≡ f (getD l k d)
-at-map f d e [] k h = absurd (not-suc-le-zero h)
-at-map f d e (x ∷ l) zero h = refl
-at-map f d e (x ∷ l) (suc k) h = at-map f d e l k (le-of-suc-le-suc h)
 
 -- the centre of the box of a frame in an array
 module _ (n : ℕ) (side : Float) (frame : List ℤ) (long : length frame ≡ 4) (few : n ≤ 4) where

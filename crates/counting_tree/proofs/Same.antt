@@ -14,7 +14,7 @@ use lib.Ieee.{Float}
 use mir.Syntax.{w16, w64}
 use mir.Val.{toZ, ofZ}
 use mir.Facts.{toZ-ofZ}
-use Rattle.lists.specs.ListLaws.{T-true, T-false}
+use Rattle.lists.specs.ListLaws.{T-true, T-false, at-map}
 use Rattle.hyperparams.specs.declared.ValidParams.{ValidParams}
 use Rattle.counting_tree.specs.Frames.{framesIn}
 use Rattle.counting_tree.specs.FramesIn.{frame-at, frame-length}
@@ -26,7 +26,6 @@ use Rattle.counting_tree.specs.Ready.{Ready}
 use Rattle.counting_tree.specs.Indexes.{indexes-length}
 use Rattle.counting_tree.proofs.Index.{coordinate, index-back}
 use Rattle.counting_tree.proofs.Counts.{read, count-here}
-use Rattle.counting_tree.proofs.Arrays.{at-map}
 
 -- the channels from k on
 abbrev pub sameRest : ℕ → List ℤ → List ℤ → ℕ → Bool

@@ -6,7 +6,6 @@ ghost use lib.IntN.{pos, _+ℤ_};
 ghost use lib.ListN.{length, take};
 ghost use lib.Ieee.{binary64, ofInt};
 ghost use Rattle.lists.specs.Words.{part};
-ghost use Rattle.hyperparams.specs.Params.{levels};
 ghost use Rattle.counting_tree.specs.Frames.{framesIn, apart};
 ghost use Rattle.counting_tree.specs.Grid.{indexes};
 ghost use Rattle.counting_tree.specs.Geometry.{frame, N, sameInts, boxAt};

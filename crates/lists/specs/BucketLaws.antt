@@ -1,6 +1,6 @@
 -- Laws of hash buckets: hashes and buckets are in range, chains go on with one number more and under writing elsewhere, and a chain is walked from its latest number down.
 use mathlib.Core.Path.{_≡_, refl, sym, ap, subst, _∙_}
-use mathlib.Core.Logic.{_⊎_, inl, inr, _↔_}
+use mathlib.Core.Logic.{_⊎_, inl, inr}
 use mathlib.Core.Bool.{Bool, true, false, cond}
 use mathlib.Core.List.{List, [], _∷_, _++_, append-nil, List·Permᴰ, List·Permᴰ·nil, List·Permᴰ·cons, List·Permᴰ·trans, Permᴰ·symm, Permᴰ·middle}
 use Prim.Native.Nat.{ℕ, zero, suc, _+_, _*_, _/_, _^_, _<_, _≤_}
@@ -10,19 +10,22 @@ use native.Mathlib.Decide.{ℕ-discrete, decLt}
 use native.Mathlib.Omega.{arith}
 use lib.Dec.{T, eqb, eqb→eq, eqb-refl}
 use lib.ListN.{length, getD}
-use Rattle.lists.specs.Lists.{numbers, keep, In}
+use Rattle.lists.specs.Lists.{numbers, keep}
 use Rattle.lists.specs.Words.{over, Clear}
-use Rattle.lists.specs.ListLaws.{true-T, T-true, T-false, keep-in, in-keep, numbers-in, in-numbers}
+use Rattle.lists.specs.ListLaws.{true-T, T-true, T-false}
 use Rattle.lists.specs.OrderLaws.{kept-snoc}
-use Rattle.lists.specs.PermLaws.{perm-same}
 use Rattle.lists.specs.WordLaws.{over-length}
 use Rattle.lists.specs.PartLaws.{get-under, get-laid, get-above}
-use Rattle.lists.specs.Buckets.{lastWith, keepDown, hashes, mix, bucket, inBucket, Bucketed}
+use Rattle.lists.specs.Buckets.{lastWith, keepDown, hashes, mix, hashFrom, bucket, inBucket, Bucketed}
 
 -- ---- hashes and buckets are in range
 pub mix-below : (h e : ℕ) → mix h e < hashes
 unfolding mix
 mix-below h e = mod-lt ((h + e) * 1640531527 / 64) (omega arith)
+
+pub hash-below : (h : ℕ) (es : List ℕ) → h < hashes → hashFrom h es < hashes
+hash-below h [] l = l
+hash-below h (e ∷ es) l = hash-below (mix h e) es (mix-below h e)
 
 pub bucket-below : (n h : ℕ) → h < hashes → 0 < n → bucket n h < n
 unfolding bucket
@@ -96,12 +99,6 @@ module _ (f : ℕ → Bool) where
       go : (b : Bool) → List·Permᴰ (keepDown f m) (keep f (numbers m)) → List·Permᴰ (cond b (m ∷ keepDown f m) (keepDown f m)) (keep f (numbers m) ++ cond b (m ∷ []) [])
       go true p = List·Permᴰ·trans (List·Permᴰ·cons refl p) (subst (λ (l : List ℕ). List·Permᴰ (m ∷ l) (keep f (numbers m) ++ (m ∷ []))) (append-nil (keep f (numbers m))) (Permᴰ·symm (Permᴰ·middle m (keep f (numbers m)) [])))
       go false p = subst (List·Permᴰ (keepDown f m)) (sym (append-nil (keep f (numbers m)))) p
-
-  pub down-in : (m d : ℕ) → In d (keepDown f m) ↔ ((d < m) × T (f d))
-  down-in m d = (
-    λ i. let z = in-keep f d (numbers m) (perm-same (down-perm m) d .0 i) in (in-numbers m d (z .0), z .1),
-    λ z. perm-same (down-perm m) d .1 (keep-in f d (numbers m) (numbers-in m d (z .0)) (z .1)),
-  )
 
 -- ---- a walk: e is 0, or one more than a number below m that passes; `keepDown f e` is what is still to come
 pub record Walk (f : ℕ → Bool) (m e : ℕ) : Type 0 where
@@ -194,13 +191,6 @@ module _ {bucketOf : ℕ → ℕ} {n m heads nexts : ℕ} {w : List ℕ} (B : Bu
 
     pub bucketed-push : {v : List ℕ} → v ≡ w₂ → Bucketed bucketOf n (m + 1) heads nexts v
     bucketed-push e = subst (Bucketed bucketOf n (m + 1) heads nexts) (sym e) (record { head = new-head; next = new-next })
-
-  -- the number m is in none
-  pub bucketed-skip : n ≤ bucketOf m → Bucketed bucketOf n (m + 1) heads nexts w
-  bucketed-skip l = record {
-    head = λ h k. B .head h k ∙ sym (last-more (inBucket bucketOf h) m ∙ ap (λ (t : Bool). cond t (m + 1) (lastWith (inBucket bucketOf h) m)) (T-false (eqb (bucketOf m) h) (λ t. omega (arith, eqb→eq (bucketOf m) h t))));
-    next = λ c k u. elim (eq-or-lt-of-le {n = c} {m = m} (omega arith)) [ inl e ↦ absurd (omega (arith, ap bucketOf e)) | inr j ↦ B .next c j u ];
-  }
 
   -- ---- a bucket is walked
   module _ (h : ℕ) where

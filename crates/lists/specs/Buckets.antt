@@ -21,9 +21,18 @@ abbrev pub hashes : ℕ
 hashes = 4294967296
 
 -- a hash of one more number e, after Fibonacci hashing: 1640531527 is near 2^32 × (1 − 1 / the golden ratio). The lowest digits of the product are dropped:
--- with them the hash would be a linear form in the numbers, and the blocks of a grid would share few buckets.
+-- with them the hash would be a linear form in the numbers, and the blocks of a grid would fall in few buckets.
 unfoldable pub mix : ℕ → ℕ → ℕ
 mix h e = (h + e) * 1640531527 / 64 % hashes
+
+-- the hash h, gone on with the numbers of a list
+abbrev pub hashFrom : ℕ → List ℕ → ℕ
+hashFrom h [] = h
+hashFrom h (e ∷ es) = hashFrom (mix h e) es
+
+-- the hash of the numbers of a list
+abbrev pub hashOf : List ℕ → ℕ
+hashOf es = hashFrom 0 es
 
 -- which of n buckets the hash h falls in
 unfoldable pub bucket : ℕ → ℕ → ℕ

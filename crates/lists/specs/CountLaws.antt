@@ -107,14 +107,6 @@ module _ {A : Type 0} where
   total-append f [] ys = omega arith
   total-append f (x ∷ xs) ys = omega (arith, total-append f xs ys)
 
-  pub total-keep : (f : A → ℕ) (p : A → Bool) (xs : List A) → total f (keep p xs) ≡ total (λ x. cond (p x) (f x) 0) xs
-  total-keep f p [] = refl
-  total-keep f p (x ∷ xs) = go (p x) (total-keep f p xs)
-    where
-      go : (b : Bool) {n : ℕ} → total f (keep p xs) ≡ n → total f (cond b (x ∷ keep p xs) (keep p xs)) ≡ cond b (f x) 0 + n
-      go true e = ap (λ (n : ℕ). f x + n) e
-      go false e = omega arith
-
   pub concat-append : (ss ts : List (List A)) → concat (ss ++ ts) ≡ concat ss ++ concat ts
   concat-append [] ts = refl
   concat-append (s ∷ ss) ts = ap (λ (r : List A). s ++ r) (concat-append ss ts) ∙ sym (append-assoc s (concat ss) (concat ts))
@@ -127,10 +119,6 @@ module _ {A B : Type 0} where
       go : (b : Bool) {l : List B} → l ≡ map h (keep (λ y. f (h y)) xs) → cond b (h x ∷ l) l ≡ map h (cond b (x ∷ keep (λ y. f (h y)) xs) (keep (λ y. f (h y)) xs))
       go true e = ap (λ (r : List B). h x ∷ r) e
       go false e = e
-
-  pub total-map : (f : B → ℕ) (h : A → B) (xs : List A) → total f (map h xs) ≡ total (λ x. f (h x)) xs
-  total-map f h [] = refl
-  total-map f h (x ∷ xs) = ap (λ (n : ℕ). f (h x) + n) (total-map f h xs)
 
   -- the pairs (c, x) that pass P, counted either way
   pub total-swap : (P : A → B → Bool) (cs : List A) (xs : List B) → total (λ c. howMany (P c) xs) cs ≡ total (λ x. howMany (λ c. P c x) cs) xs

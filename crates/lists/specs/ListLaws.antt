@@ -1,7 +1,7 @@
 -- Laws of truth values and of lists: what is an element, what passes a test, the numbers.
 use mathlib.Core.Path.{_≡_, refl, sym, ap, ap₂, _∙_, subst}
 use mathlib.Core.Logic.{_⊎_, inl, inr, _↔_}
-use mathlib.Core.Bool.{Bool, true, false, not, _&&_, _||_, cond}
+use mathlib.Core.Bool.{Bool, true, false, not, _&&_, _||_, cond, Bool·not-not}
 use mathlib.Core.List.{List, [], _∷_, _++_, map}
 use Prim.Native.Nat.{ℕ, zero, suc, _+_, _≤_, _<_, zero-le, suc-le-suc}
 use native.Mathlib.Nat.{le-trans, le-suc, not-suc-le-zero, le-of-suc-le-suc, eq-or-lt-of-le, add-zero, zero-add}
@@ -21,6 +21,9 @@ T-true false h = absurd h
 pub T-false : (b : Bool) → (T b → ⊥) → b ≡ false
 T-false true h = absurd (h tt)
 T-false false h = refl
+
+pub not-turn : (a b : Bool) → not a ≡ b → a ≡ not b
+not-turn a b e = sym (Bool·not-not a) ∙ ap not e
 
 pub and-left : (a b : Bool) → T (a && b) → T a
 and-left true b h = tt
@@ -266,6 +269,11 @@ at-from f d a (suc n) (suc i) h = let e : suc a + i ≡ a + suc i = omega arith 
 
 pub at-numbers : {A : Type 0} (f : ℕ → A) (d : A) (n i : ℕ) → i < n → getD (map f (numbers n)) i d ≡ f i
 at-numbers f d n i h = at-from f d 0 n i h ∙ ap f (zero-add i)
+
+pub at-map : {A B : Type 0} (f : A → B) (d : A) (e : B) (l : List A) (k : ℕ) → k < length l → getD (map f l) k e ≡ f (getD l k d)
+at-map f d e [] k h = absurd (not-suc-le-zero h)
+at-map f d e (x ∷ l) zero h = refl
+at-map f d e (x ∷ l) (suc k) h = at-map f d e l k (le-of-suc-le-suc h)
 
 pub length-numbers : {A : Type 0} (f : ℕ → A) (n : ℕ) → length (map f (numbers n)) ≡ n
 length-numbers f n = length-map (from 0 n) f ∙ length-from 0 n

@@ -1,20 +1,20 @@
--- Loops: a search, the lowest that passes a test, the words of a part that pass a test counted, a sum over numbers that may stop early, a column that is filled, what passes a test gathered.
+-- Loops: the lowest that passes a test, the words of a part that pass a test counted, a sum over numbers that may stop early, a column that is filled.
 use mathlib.Core.Path.{_≡_, refl, sym, ap, ap₂, _∙_, subst}
 use mathlib.Core.Logic.{_⊎_, inl, inr}
 use mathlib.Core.Bool.{Bool, true, false, _&&_, cond}
-use mathlib.Core.List.{List, [], _∷_, _++_, append-nil}
+use mathlib.Core.List.{List, [], _∷_}
 use Prim.Native.Nat.{ℕ, suc, _+_, _-_, _<_, _≤_}
 use native.Mathlib.Omega.{arith}
 use native.Mathlib.Nat.{le-of-lt}
 use native.Mathlib.Numerals.{add-one}
 use lib.Dec.{T, leb, leb→le, le→leb}
-use lib.ListN.{length, drop, getD, set, length-append}
+use lib.ListN.{length, drop, getD, set}
 use lib.Seq.{drop-cons, drop-length}
 use Rattle.lists.specs.Lists.{from, numbers, keep, howMany, total, headOr, In}
 use Rattle.lists.specs.Words.{over, part, column, rest}
 use Rattle.lists.specs.ListLaws.{true-T, T-true, T-false, and-left, and-right, and-both, keep-in, in-keep, at-in, head-in, numbers-in, in-numbers, length-numbers}
 use Rattle.lists.specs.CountLaws.{keep-none, howMany-cons}
-use Rattle.lists.specs.OrderLaws.{kept-snoc, kept-le, numbers-ascending, keep-ascending, head-lowest}
+use Rattle.lists.specs.OrderLaws.{numbers-ascending, keep-ascending, head-lowest}
 use Rattle.lists.specs.WordLaws.{over-length, over-nil, over-snoc}
 use Rattle.lists.specs.PartLaws.{part-under, part-first, column-snoc, column-part}
 
@@ -29,32 +29,6 @@ rest-step n j h =
 
 pub rest-end : (n j : ℕ) → n ≤ j → rest n j ≡ []
 rest-end n j h = let e : n - j ≡ 0 = omega arith in ap (from j) e
-
-module _ (f : ℕ → Bool) (n j : ℕ) (more : j < n) where
-  pub keep-hit : f j ≡ true → keep f (rest n j) ≡ j ∷ keep f (rest n (j + 1))
-  keep-hit e = rw (rest-step n j more, e)
-
-  pub keep-miss : f j ≡ false → keep f (rest n j) ≡ keep f (rest n (j + 1))
-  keep-miss e = rw (rest-step n j more, e)
-
--- ---- the first that passes f: `first` is what the search is for, d if there is none
-pub record Search (f : ℕ → Bool) (n d first j : ℕ) : Type 0 where
-  pub high : j ≤ n
-  pub left : headOr d (keep f (rest n j)) ≡ first
-
-module _ (f : ℕ → Bool) (n d : ℕ) where
-  pub search-start : Search f n d (headOr d (keep f (numbers n))) 0
-  search-start = record { high = omega arith; left = ap (λ (l : List ℕ). headOr d (keep f l)) (rest-start n) }
-
-  module _ {first j : ℕ} (c : Search f n d first j) where
-    pub search-hit : j < n → f j ≡ true → j ≡ first
-    search-hit h t = ap (headOr d) (sym (keep-hit f n j h t)) ∙ c .left
-
-    pub search-miss : j < n → f j ≡ false → Search f n d first (j + 1)
-    search-miss h t = record { high = omega arith; left = ap (headOr d) (sym (keep-miss f n j h t)) ∙ c .left }
-
-    pub search-end : n ≤ j → d ≡ first
-    search-end h = ap (λ (l : List ℕ). headOr d (keep f l)) (sym (rest-end n j h)) ∙ c .left
 
 -- ---- the lowest of xs that passes f: b is that of the first j, d if there is none
 pub record Lowest (f : ℕ → Bool) (d : ℕ) (xs : List ℕ) (b j : ℕ) : Type 0 where
@@ -163,9 +137,6 @@ module _ {f : ℕ → ℕ} {n least m j : ℕ} (s : Sum f n least m j) where
     pub sum-more : m + x < least → Sum f n least (m + x) (j + 1)
     sum-more k = record { high = omega arith; sum = omega (arith, e, s .sum, ap (total f) (rest-step n j h)); low = k }
 
-  pub sum-skip : j < n → f j ≡ 0 → Sum f n least m (j + 1)
-  sum-skip h e = record { high = omega arith; sum = omega (arith, e, s .sum, ap (total f) (rest-step n j h)); low = s .low }
-
   pub sum-end : n ≤ j → leb least (total f (numbers n)) ≡ false
   sum-end h = T-false (leb least (total f (numbers n))) (λ t. omega (arith, leb→le least (total f (numbers n)) t, s .low, s .sum, ap (total f) (rest-end n j h)))
 
@@ -200,45 +171,3 @@ module _ {A : Type 0} {h : ℕ → A} {w₀ : List A} {a n : ℕ} {v : List A} {
 -- the column is of words of another slice
 pub fill-part : (xs : List ℕ) (b : ℕ) {w₀ v : List ℕ} {a n i : ℕ} → b + n ≤ length xs → Fill (λ j. getD xs (b + j) 0) w₀ a n v i → n ≤ i → v ≡ over w₀ a (part xs b n)
 fill-part xs b {w₀} {v} {a} {n} h c l = fill-end c l ∙ ap (over w₀ a) (column-part xs b n h)
-
--- ---- the numbers that pass f are gathered: k so far
-pub record Gather (f : ℕ → Bool) (w₀ : List ℕ) (a n : ℕ) (v : List ℕ) (k i : ℕ) : Type 0 where
-  pub fit : a + n ≤ length w₀
-  pub high : i ≤ n
-  pub work : v ≡ over w₀ a (keep f (numbers i))
-  pub found : k ≡ length (keep f (numbers i))
-
-pub gather-start : {f : ℕ → Bool} {w₀ : List ℕ} {a n : ℕ} → a + n ≤ length w₀ → Gather f w₀ a n w₀ 0 0
-gather-start {f} {w₀} {a} h = record { fit = h; high = omega arith; work = sym (over-nil w₀ a); found = refl }
-
-module _ {f : ℕ → Bool} {w₀ : List ℕ} {a n : ℕ} {v : List ℕ} {k i : ℕ} (c : Gather f w₀ a n v k i) where
-  abbrev K : List ℕ
-  K = keep f (numbers i)
-
-  pub gather-low : k ≤ i
-  gather-low = omega (arith, c .found, kept-le f i)
-
-  pub gather-length : length v ≡ length w₀
-  gather-length = ap length (c .work) ∙ over-length w₀ a K (omega (arith, kept-le f i, c .high, c .fit))
-
-  pub gather-hit : i < n → f i ≡ true → Gather f w₀ a n (set v (a + k) i) (k + 1) (i + 1)
-  gather-hit h t =
-      let e : keep f (numbers (i + 1)) ≡ K ++ (i ∷ []) = kept-snoc f i ∙ ap (λ (b : Bool). K ++ cond b (i ∷ []) []) t in
-      record {
-        fit = c .fit;
-        high = omega arith;
-        work = ap (λ (z : List ℕ). set z (a + k) i) (c .work)
-            ∙ over-snoc w₀ a (a + k) K i (omega (arith, c .found)) (omega (arith, c .found, kept-le f i, c .fit))
-            ∙ ap (over w₀ a) (sym e);
-        found = omega (arith, c .found, ap length e, length-append K (i ∷ []));
-      }
-
-  pub gather-miss : i < n → f i ≡ false → Gather f w₀ a n v k (i + 1)
-  gather-miss h t =
-      let e : keep f (numbers (i + 1)) ≡ K = kept-snoc f i ∙ ap (λ (b : Bool). K ++ cond b (i ∷ []) []) t ∙ append-nil K in
-      record { fit = c .fit; high = omega arith; work = c .work ∙ ap (over w₀ a) (sym e); found = c .found ∙ ap length (sym e) }
-
-  pub gather-end : n ≤ i → (k ≡ length (keep f (numbers n))) × (v ≡ over w₀ a (keep f (numbers n)))
-  gather-end h =
-      let e : i ≡ n = omega (arith, c .high) in
-      (c .found ∙ ap (λ (z : ℕ). length (keep f (numbers z))) e, c .work ∙ ap (λ (z : ℕ). over w₀ a (keep f (numbers z))) e)

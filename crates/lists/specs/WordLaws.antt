@@ -6,7 +6,7 @@ use Prim.Native.Nat.{ℕ, suc, _+_, _<_, _≤_}
 use native.Mathlib.Omega.{arith}
 use native.Mathlib.Nat.{add-zero, zero-add}
 use native.Mathlib.Numerals.{add-one}
-use lib.ListN.{length, take, drop, getD, set, length-set, length-append, length-drop, take-append-drop}
+use lib.ListN.{length, take, drop, getD, set, replicate, length-set, length-append, length-drop, take-append-drop}
 use lib.Seq.{drop-drop, drop-at, take-at, set-at, set-append-left, drop-cons, length-take-le, take-suc, drop-length}
 use Rattle.lists.specs.Words.{over, part}
 
@@ -175,6 +175,15 @@ module _ {A : Type 0} where
       ∙ ap (λ (z : List A). set (set z (at + 2) c) (at + 3) d) (over-snoc xs at (at + 1) (a ∷ []) b refl (omega arith))
       ∙ ap (λ (z : List A). set z (at + 3) d) (over-snoc xs at (at + 2) (a ∷ b ∷ []) c refl (omega arith))
       ∙ over-snoc xs at (at + 3) (a ∷ b ∷ c ∷ []) d refl (omega arith)
+
+  -- at most four words laid over four, with z after them
+  pub four-over : (z : A) (ys : List A) (a b c d : A) → length ys ≤ 4 → a ≡ getD ys 0 z → b ≡ getD ys 1 z → c ≡ getD ys 2 z → d ≡ getD ys 3 z → a ∷ b ∷ c ∷ d ∷ [] ≡ over (replicate 4 z) 0 ys
+  four-over z [] a b c d h e f g i = rw (e, f, g, i)
+  four-over z (w ∷ []) a b c d h e f g i = rw (e, f, g, i)
+  four-over z (w ∷ x ∷ []) a b c d h e f g i = rw (e, f, g, i)
+  four-over z (w ∷ x ∷ y ∷ []) a b c d h e f g i = rw (e, f, g, i)
+  four-over z (w ∷ x ∷ y ∷ u ∷ []) a b c d h e f g i = rw (e, f, g, i)
+  four-over z (w ∷ x ∷ y ∷ u ∷ t ∷ l) a b c d h e f g i = absurd (omega arith)
 
   -- a part that was lent, and came back as ws
   pub put-over : (xs : List A) (a k : ℕ) (ws : List A) → length ws ≡ k → take a xs ++ (ws ++ drop k (drop a xs)) ≡ over xs a ws

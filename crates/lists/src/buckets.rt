@@ -1,4 +1,5 @@
-// Hash buckets: chains of numbers in words of a lent slice.
+// Hash buckets: chains of numbers in words of a lent slice. From `heads` on stands the last number put in each bucket, from `nexts` on, for each number,
+// the one before it in its bucket: one more than it, 0 for none.
 ghost use mathlib.Core.Path.{_≡_};
 ghost use mathlib.Core.List.{[], _∷_};
 ghost use Prim.Native.Nat.{_+_, _<_};

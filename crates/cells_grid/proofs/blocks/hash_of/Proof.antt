@@ -3,10 +3,9 @@ use mathlib.Core.Path.{_≡_, refl, sym, ap, _∙_}
 use Prim.Native.Nat.{ℕ}
 use native.Mathlib.Omega.{arith}
 use lib.ListN.{getD, take}
-use Rattle.lists.specs.Buckets.{hashes}
+use Rattle.lists.specs.Buckets.{hashOf, hashes}
 use Rattle.lists.specs.BucketLaws.{mix-below}
 use Rattle.lists.specs.OrderLaws.{below-at}
-use Rattle.cells_grid.specs.Blocks.{hashOf}
 use Rattle.cells_grid.proofs.Edges.{hash-next}
 use borrow.Author.Needs.{needs}
 use Rattle.cells_grid.proofs.blocks.hash_of.Statement.{statement}

@@ -2,10 +2,10 @@
 use mathlib.Core.Path.{ap}
 use Prim.Native.Nat.{ℕ, _-_, _*_, _≤_}
 use native.Mathlib.Omega.{arith}
-use Rattle.lists.specs.Buckets.{bucket}
+use Rattle.lists.specs.Buckets.{hashOf, bucket}
 use Rattle.counting_tree.specs.Frames.{framesIn}
 use Rattle.counting_tree.specs.Geometry.{frame}
-use Rattle.cells_grid.specs.Blocks.{keyOf, hashOf}
+use Rattle.cells_grid.specs.Blocks.{keyOf}
 use Rattle.cells_grid.proofs.Hashing.{Hashing, hashing-few, hashing-start, hashing-length, hashing-skip, hashing-below, hashing-push, hashing-end}
 use Rattle.cells_grid.proofs.listing.hash_cells.Statement.{statement}
 use Rattle.cells_grid.proofs.listing.hash_cells.Tie as tie
