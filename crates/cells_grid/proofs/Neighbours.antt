@@ -10,7 +10,8 @@ use lib.ListN.{length, take, getD, replicate}
 use lib.Pow.{pow-mono}
 use Rattle.lists.specs.Lists.{numbers, howMany, total, Below}
 use Rattle.lists.specs.Words.{over, Clear}
-use Rattle.lists.specs.ListLaws.{not-turn, and-right}
+use Rattle.lists.specs.ListLaws.{T-false, not-turn, and-right}
+use Rattle.lists.specs.OrderLaws.{kept-le}
 use Rattle.lists.specs.CountLaws.{howMany-cons, length-concat}
 use Rattle.lists.specs.PermLaws.{perm-length}
 use Rattle.lists.specs.LoopLaws.{Sum, sum-start, sum-stop, sum-more, sum-end}
@@ -114,6 +115,10 @@ module _ {ps : List ℤ} {v : ValidParams} {n i : ℕ} (r : Ready ps v n) (c : C
 
   pub blocks-end : {m count : ℕ} → Sum inBlockOf (2 ^ v .channels) (g .least) count m → 2 ^ v .channels ≤ m → false ≡ leb (g .least) (howMany (neighbour g i) (numbers n))
   blocks-end s l = sym (ap (leb (g .least)) (sym crowd) ∙ sum-end s l)
+
+-- fewer frames than are needed
+pub too-few : (g : Geometry) (i n : ℕ) → n < g .least → false ≡ leb (g .least) (howMany (neighbour g i) (numbers n))
+too-few g i n h = sym (T-false (leb (g .least) (howMany (neighbour g i) (numbers n))) (λ t. omega (arith, leb→le (g .least) (howMany (neighbour g i) (numbers n)) t, kept-le (neighbour g i) n)))
 
 -- ---- one frame: c is the number of its cell and f that cell's first frame, as the words have them
 module _ {ps : List ℤ} {v : ValidParams} {n k j : ℕ} {w : List ℕ} (r : Ready ps v n) (A : Arranged (geometryAt v n ps) k w) (h : j < n) where

@@ -113,6 +113,9 @@ pub fn crowded(points: &[i16], v: ValidParams, n: usize, work: &[Word], i: usize
     requires { ⌜ Arranged (geometryAt v n (now points)) (length (cells (geometryAt v n (now points)))) (now work) × Hashed (v .t) v n (now points) every (now work) × (15 * n ≤ length (now work)) ⌝ }
     ensures { λ r. ⌜ r ≡ leb (geometryAt v n (now (points .entry)) .least) (howMany (neighbour (geometryAt v n (now (points .entry))) i) (numbers n)) ⌝ }
 {
+    if v.min_points > n {
+        return false;
+    }
     let c = lists::word(work, i);
     let own = lists::word(work, n + c);
     let w = width(v);

@@ -3,10 +3,10 @@ use Prim.Native.Nat.{_-_, _^_, _<_}
 use native.Mathlib.Omega.{arith}
 use lib.ListN.{length}
 use Rattle.lists.specs.LoopLaws.{Sum}
-use Rattle.counting_tree.specs.Ready.{geometryAt}
+use Rattle.counting_tree.specs.Ready.{geometryAt, at-least}
 use Rattle.cells_grid.specs.Cells.{neighbour}
 use Rattle.cells_grid.specs.Blocks.{inBlock}
-use Rattle.cells_grid.proofs.Neighbours.{number-fits, first-fits, first-is, blocks-start, blocks-stop, blocks-more, blocks-end, crowd-width, crowd-channels, crowd-most, crowd-edges, crowd-block, crowd-count, crowd-more}
+use Rattle.cells_grid.proofs.Neighbours.{too-few, number-fits, first-fits, first-is, blocks-start, blocks-stop, blocks-more, blocks-end, crowd-width, crowd-channels, crowd-most, crowd-edges, crowd-block, crowd-count, crowd-more}
 use Rattle.cells_grid.proofs.crowding.crowded.Statement.{statement}
 use Rattle.cells_grid.proofs.crowding.crowded.Tie as tie
 
@@ -16,56 +16,59 @@ Inv-loop points v n work i c own w first blocks count₀ m₀ count m = Sum (λ 
 abbrev μ-loop : tie.MeasureT-loop
 μ-loop points v n work i c own w first blocks count₀ m₀ count m = blocks - m
 
+returns : tie.Need-returns Inv-loop μ-loop
+returns c = too-few (geometryAt (c .before .before .before .args .v) (c .before .before .before .args .n) (c .before .before .before .args .points .now)) (c .before .before .before .args .i) (c .before .before .before .args .n) (omega (arith, c .if1 .taken, at-least (c .before .before .before .args .v) (c .before .before .before .args .n) (c .before .before .before .args .points .now)))
+
 word-requires : tie.Need-word-requires Inv-loop μ-loop
-word-requires c κs = let p = c .before .pre in number-fits (p .0 .0) (p .1 .0) (p .0 .2)
+word-requires c κs = let p = c .before .before .before .pre in number-fits (p .0 .0) (p .1 .0) (p .0 .2)
 
 add-word : tie.Need-add-word Inv-loop μ-loop
-add-word c = let p = c .before .before .pre in omega (arith, first-fits (p .0 .0) (p .1 .0) (p .0 .2) (c .word .ensures))
+add-word c = let p = c .before .before .before .before .pre in omega (arith, first-fits (p .0 .0) (p .1 .0) (p .0 .2) (c .word .ensures))
 
 word-requires-2 : tie.Need-word-requires-2 Inv-loop μ-loop
-word-requires-2 c κs = let p = c .before .before .pre in first-fits (p .0 .0) (p .1 .0) (p .0 .2) (c .word .ensures)
+word-requires-2 c κs = let p = c .before .before .before .before .pre in first-fits (p .0 .0) (p .1 .0) (p .0 .2) (c .word .ensures)
 
 width-requires : tie.Need-width-requires Inv-loop μ-loop
-width-requires c κs = crowd-width (c .before .before .before .pre)
+width-requires c κs = crowd-width (c .before .before .before .before .before .pre)
 
 edges-at-requires : tie.Need-edges-at-requires Inv-loop μ-loop
-edges-at-requires c κs = crowd-edges (c .before .before .before .before .pre) (c .width .ensures)
+edges-at-requires c κs = crowd-edges (c .before .before .before .before .before .before .pre) (c .width .ensures)
 
 block-count-requires : tie.Need-block-count-requires Inv-loop μ-loop
-block-count-requires c κs = crowd-channels (c .before .before .before .before .before .pre)
+block-count-requires c κs = crowd-channels (c .before .before .before .before .before .before .before .pre)
 
 loop-holds : tie.Need-loop-holds Inv-loop μ-loop
-loop-holds c = let p = c .before .before .before .before .before .before .pre in blocks-start (p .0 .0) (p .0 .1) (p .0 .2)
+loop-holds c = let p = c .before .before .before .before .before .before .before .before .pre in blocks-start (p .0 .0) (p .0 .1) (p .0 .2)
 
 block-requires : tie.Need-block-requires Inv-loop μ-loop
-block-requires c κs = crowd-block (c .before .before .before .before .before .before .before .before .pre) (c .before .before .before .before .width .ensures) (c .before .before .before .edges-at .ensures) (omega (arith, c .loop-test .taken, c .before .before .block-count .ensures))
+block-requires c κs = crowd-block (c .before .before .before .before .before .before .before .before .before .before .pre) (c .before .before .before .before .width .ensures) (c .before .before .before .edges-at .ensures) (omega (arith, c .loop-test .taken, c .before .before .block-count .ensures))
 
 count-block-requires : tie.Need-count-block-requires Inv-loop μ-loop
 count-block-requires c κs =
-    let p = c .before .before .before .before .before .before .before .before .before .pre in
+    let p = c .before .before .before .before .before .before .before .before .before .before .before .pre in
     crowd-count p (c .before .before .before .before .before .width .ensures) (c .before .before .before .before .edges-at .ensures) (omega (arith, c .before .loop-test .taken, c .before .before .before .block-count .ensures)) (c .block .ensures) (first-is (p .0 .0) (p .1 .0) (p .0 .2) (c .before .before .before .before .before .before .before .word .ensures) (c .before .before .before .before .before .before .word2 .ensures)) (c .before .before .loop .inv)
 
-returns : tie.Need-returns Inv-loop μ-loop
-returns c =
-    let p = c .before .before .before .before .before .before .before .before .before .before .before .before .pre in
-    let l : (c .before .before .before .before .before .loop .m) < 2 ^ (c .before .before .before .before .before .before .before .before .before .before .before .before .args .v .channels) = omega (arith, c .before .before .before .before .loop-test .taken, c .before .before .before .before .before .before .block-count .ensures) in
-    blocks-stop (p .0 .0) (p .0 .1) (p .0 .2) (c .before .before .before .before .before .loop .inv) l (crowd-more p (c .before .before .before .before .before .before .before .before .width .ensures) (c .before .before .before .before .before .before .before .edges-at .ensures) l (c .before .before .before .block .ensures) (c .before .before .before .before .before .loop .count) (c .before .before .count-block .ensures)) (c .if1 .taken)
+returns-2 : tie.Need-returns-2 Inv-loop μ-loop
+returns-2 c =
+    let p = c .before .before .before .before .before .before .before .before .before .before .before .before .before .before .pre in
+    let l : (c .before .before .before .before .before .loop .m) < 2 ^ (c .before .before .before .before .before .before .before .before .before .before .before .before .before .before .args .v .channels) = omega (arith, c .before .before .before .before .loop-test .taken, c .before .before .before .before .before .before .block-count .ensures) in
+    blocks-stop (p .0 .0) (p .0 .1) (p .0 .2) (c .before .before .before .before .before .loop .inv) l (crowd-more p (c .before .before .before .before .before .before .before .before .width .ensures) (c .before .before .before .before .before .before .before .edges-at .ensures) l (c .before .before .before .block .ensures) (c .before .before .before .before .before .loop .count) (c .before .before .count-block .ensures)) (c .if2 .taken)
 
 add-m : tie.Need-add-m Inv-loop μ-loop
-add-m c = omega (arith, c .before .before .before .before .loop-test .taken, c .before .before .before .before .before .before .block-count .ensures, crowd-most (c .before .before .before .before .before .before .before .before .before .before .before .before .pre))
+add-m c = omega (arith, c .before .before .before .before .loop-test .taken, c .before .before .before .before .before .before .block-count .ensures, crowd-most (c .before .before .before .before .before .before .before .before .before .before .before .before .before .before .pre))
 
 loop-less : tie.Need-loop-less Inv-loop μ-loop
 loop-less c = omega arith
 
 loop-again : tie.Need-loop-again Inv-loop μ-loop
 loop-again c =
-    let p = c .before .before .before .before .before .before .before .before .before .before .before .before .pre in
-    let l : (c .before .before .before .before .before .loop .m) < 2 ^ (c .before .before .before .before .before .before .before .before .before .before .before .before .args .v .channels) = omega (arith, c .before .before .before .before .loop-test .taken, c .before .before .before .before .before .before .block-count .ensures) in
-    blocks-more (p .0 .0) (p .0 .1) (p .0 .2) (c .before .before .before .before .before .loop .inv) l (crowd-more p (c .before .before .before .before .before .before .before .before .width .ensures) (c .before .before .before .before .before .before .before .edges-at .ensures) l (c .before .before .before .block .ensures) (c .before .before .before .before .before .loop .count) (c .before .before .count-block .ensures)) (c .if1 .left)
+    let p = c .before .before .before .before .before .before .before .before .before .before .before .before .before .before .pre in
+    let l : (c .before .before .before .before .before .loop .m) < 2 ^ (c .before .before .before .before .before .before .before .before .before .before .before .before .before .before .args .v .channels) = omega (arith, c .before .before .before .before .loop-test .taken, c .before .before .before .before .before .before .block-count .ensures) in
+    blocks-more (p .0 .0) (p .0 .1) (p .0 .2) (c .before .before .before .before .before .loop .inv) l (crowd-more p (c .before .before .before .before .before .before .before .before .width .ensures) (c .before .before .before .before .before .before .before .edges-at .ensures) l (c .before .before .before .block .ensures) (c .before .before .before .before .before .loop .count) (c .before .before .count-block .ensures)) (c .if2 .left)
 
-returns-2 : tie.Need-returns-2 Inv-loop μ-loop
-returns-2 c =
-    let p = c .before .before .before .before .before .before .before .before .pre in
+returns-3 : tie.Need-returns-3 Inv-loop μ-loop
+returns-3 c =
+    let p = c .before .before .before .before .before .before .before .before .before .before .pre in
     blocks-end (p .0 .0) (p .0 .1) (p .0 .2) (c .before .loop .inv) (omega (arith, c .loop-test .left, c .before .before .block-count .ensures))
 
 pub crowded-spec : {M : Type 1} → statement M
@@ -74,6 +77,7 @@ crowded-spec =
     (tie.spec
     Inv-loop
     μ-loop
+    returns
     word-requires
     add-word
     word-requires-2
@@ -83,8 +87,8 @@ crowded-spec =
     loop-holds
     block-requires
     count-block-requires
-    returns
+    returns-2
     add-m
     loop-less
     loop-again
-    returns-2)
+    returns-3)
