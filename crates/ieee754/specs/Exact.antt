@@ -32,16 +32,18 @@ pub rep-whole : (k : ℕ) → k < 2 ^ 53 → Rep (k * unit)
 unfolding unit
 rep-whole k h = record { digits = k; places = 1074; few = h; is = refl }
 
+pub round-same-rep : (s : Bool) (n : ℕ) → Rep n → n < 2 ^ 2098 → Is (round binary64 s n unit) s n
+unfolding unit
+round-same-rep s n r h =
+    of-value (round binary64 s n unit) s n
+    (round-exact binary64 s n unit (r .digits) (r .places) unit-pos (r .few) (subst (λ (x : ℕ). x < 2 ^ 2098) (r .is) h) (ap (λ (x : ℕ). x * 2 ^ 1074) (r .is)))
+
 pub round-rep : (s : Bool) (n : ℕ) → Rep n → n ≤ 2 ^ 100 * unit → Is (round binary64 s n unit) s n
 unfolding unit
-round-rep s n r h =
-    of-value (round binary64 s n unit) s n
-    (round-exact binary64 s n unit (r .digits) (r .places) unit-pos (r .few)
-    (lt-of-le-of-lt (subst (λ (x : ℕ). x ≤ 2 ^ 100 * unit) (r .is) h) (lit< tt))
-    (ap (λ (x : ℕ). x * 2 ^ 1074) (r .is)))
+round-rep s n r h = round-same-rep s n r (lt-of-le-of-lt h (lit< tt))
 
 -- ---- order
-positive-mag : (x y : Float) → Good x → Good y → sign x ≡ false → sign y ≡ false → T (le x y) → mag x ≤ mag y
+pub positive-mag : (x y : Float) → Good x → Good y → sign x ≡ false → sign y ≡ false → T (le x y) → mag x ≤ mag y
 positive-mag x y g k s t l =
     let h : plus x + minus y ≤ plus y + minus x = leb→le (plus x + minus y) (plus y + minus x) (subst T (le-is x y g k) l) in
     let a = plus-pos x s in
@@ -97,6 +99,12 @@ ofInt-pos n h = of-value (round binary64 false n 1) false (n * unit) (whole-valu
 pub ofInt-neg : (n : ℕ) → suc n ≤ 2 ^ 53 → Is (ofInt binary64 (negsuc n)) true (suc n * unit)
 unfolding ofInt
 ofInt-neg n h = of-value (round binary64 true (suc n) 1) true (suc n * unit) (whole-value (round binary64 true (suc n) 1) true (suc n) (round-whole binary64 true (suc n) h))
+
+pub good-finite : (x : Float) → Good x → T (finite x)
+unfolding Good
+good-finite nan g = absurd g
+good-finite (inf s) g = absurd g
+good-finite (fin s m e) g = tt
 
 -- ---- every value of the format is such a number of units
 tests : (a b c d : Bool) → T (a && b && c && d) → T b × T c × T d

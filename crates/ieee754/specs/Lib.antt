@@ -14,4 +14,5 @@ pub mod Abs
 pub mod RootLaw
 pub mod RootDigits
 pub mod RootNearest
+pub mod Rank
 pub mod Whole

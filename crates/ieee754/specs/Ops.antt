@@ -56,7 +56,7 @@ close-cancel r n den k K c = (
   le-of-mul-le-mul-right {k = k} (omega arith) K,
 )
 
-close-one : (r n u : ℕ) → 0 < u → Close r (n * u) u → Close r n 1
+pub close-one : (r n u : ℕ) → 0 < u → Close r (n * u) u → Close r n 1
 close-one r n u U c = close-cancel r n 1 u U (subst (λ (d : ℕ). Close r (n * u) d) (sym (one-mul u)) c)
 
 pub near-units : (s : Bool) (n : ℕ) → n ≤ 2 ^ 100 * unit → Rounded (round binary64 s n unit) s n 1

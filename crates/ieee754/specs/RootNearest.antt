@@ -88,16 +88,36 @@ module _ (s k K : ℕ) (lo : 2 ^ 53 ≤ s) (r : Rep K) where
       small : (q w : ℕ) → 2 ^ 52 ≤ q → K ≤ 2 ^ 52 * w → q * w < K → ⊥
       small q w h l m = let a : 2 ^ 52 * w ≤ q * w = mul-le-mul-right w h in omega arith
 
-pub root-nearest : (x : Float) → T (fits binary64 x) → T (finite x) → sign x ≡ false → (K : ℕ) → Rep K → Nearer (mag x * unit) (mag (root x)) K
+-- the rounded root z of x, and each other value K: the middle of the two is at most the exact root where K lies below z, and more than it where K lies above
+pub record Placed (x z : Float) : Type 0 where
+  pub good : Good z
+  pub sign-is : sign z ≡ false
+  pub below : (K : ℕ) → Rep K → K < mag z → (K + mag z) * (K + mag z) ≤ 4 * (mag x * unit)
+  pub above : (K : ℕ) → Rep K → mag z < K → 4 * (mag x * unit) < (K + mag z) * (K + mag z)
+
+pub root-placed : (x : Float) → T (fits binary64 x) → T (finite x) → sign x ≡ false → Placed x (root x)
 unfolding root sign Good
-root-nearest nan f t p K r = absurd t
-root-nearest (inf q) f t p K r = absurd t
-root-nearest (fin q zero e) f t p K r = zeros (mag (fin q zero e)) (zero-mag q e)
+root-placed nan f t p = absurd t
+root-placed (inf q) f t p = absurd t
+root-placed (fin q zero e) f t p =
+    let z = zero-mag q e in
+    record {
+      good = fits-good (fin q zero e) f t .0;
+      sign-is = p;
+      below = λ K r h. none (mag (fin q zero e)) K z h;
+      above = λ K r h. more (mag (fin q zero e)) K z h;
+    }
   where
-    zeros : (m : ℕ) → m ≡ 0 → Nearer (m * unit) m K
-    zeros m e = subst (λ (n : ℕ). Nearer (n * unit) n K) (sym e) (record { below = λ h. omega arith; above = λ h. omega arith })
-root-nearest (fin true (suc n) e) f t p K r = absurd (true≢false p)
-root-nearest (fin false (suc n) e) f t p K r = go (leading R large)
+    none : (m K : ℕ) → m ≡ 0 → K < m → (K + m) * (K + m) ≤ 4 * (m * unit)
+    none m K z h = absurd (omega arith)
+
+    more : (m K : ℕ) → m ≡ 0 → m < K → 4 * (m * unit) < (K + m) * (K + m)
+    more m K z h =
+        let a : 1 * 1 ≤ (K + m) * (K + m) = sq-mono {a = 1} (omega arith) in
+        let b : 4 * (m * unit) ≡ 4 * (0 * unit) = ap (λ (n : ℕ). 4 * (n * unit)) z in
+        omega arith
+root-placed (fin true (suc n) e) f t p = absurd (true≢false p)
+root-placed (fin false (suc n) e) f t p = go (leading R large)
   where
     x : Float
     x = fin false (suc n) e
@@ -123,14 +143,22 @@ root-nearest (fin false (suc n) e) f t p K r = go (leading R large)
         many : 2 ^ 54 * 2 ^ 54 ≤ 4 * v
         many = unfold unit in le-trans (lit≤ tt) (mul-le-mul-left 4 (mul-le-mul-right {m = 1} unit positive))
 
-    go : Leading R → Nearer v (mag (root x)) K
+    go : Leading R → Placed x (root x)
     go l =
         let k = l .places in
         let s = R / 2 ^ k in
         let a : s * 2 ^ k * (s * 2 ^ k) ≤ 4 * v = le-trans (sq-mono (div-mul-le-self R (2 ^ k))) (isqrt-root (4 * v) .0) in
         let b : 4 * v < (s + 1) * 2 ^ k * ((s + 1) * 2 ^ k) = lt-of-lt-of-le (isqrt-root (4 * v) .1) (sq-mono (step R s (2 ^ k) (lt-div-mul-add (pow-pos k)))) in
         let i = root-digits x s k (good .0) p (good .1) (fits-below x f t) (l .low) (l .high) a b in
-        subst (λ (z : ℕ). Nearer v z K) (sym (i .mag-is)) (record { below = λ h. le-trans (sq-mono (under s k K (l .low) r h)) a; above = λ h. le-of-lt (lt-of-lt-of-le b (sq-mono (over s k K (l .low) r h))) })
+        record {
+          good = i .good;
+          sign-is = i .sign-is;
+          below = λ K r. subst (λ (z : ℕ). K < z → (K + z) * (K + z) ≤ 4 * v) (sym (i .mag-is)) (λ h. le-trans (sq-mono (under s k K (l .low) r h)) a);
+          above = λ K r. subst (λ (z : ℕ). z < K → 4 * v < (K + z) * (K + z)) (sym (i .mag-is)) (λ h. lt-of-lt-of-le b (sq-mono (over s k K (l .low) r h)));
+        }
       where
         step : (r s p : ℕ) → r < s * p + p → r + 1 ≤ (s + 1) * p
         step r s p h = omega arith
+
+pub root-nearest : (x : Float) → T (fits binary64 x) → T (finite x) → sign x ≡ false → (K : ℕ) → Rep K → Nearer (mag x * unit) (mag (root x)) K
+root-nearest x f t p K r = let w = root-placed x f t p in record { below = w .below K r; above = λ h. le-of-lt (w .above K r h) }
