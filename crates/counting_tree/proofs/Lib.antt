@@ -4,4 +4,6 @@ pub mod Answer
 pub mod Counts
 pub mod Same
 pub mod Lent
+pub mod Settled
 pub mod Squares
+pub mod Walk

@@ -66,14 +66,14 @@ crossing-disjoint e = let z : _≡_ {A = ℕ} 0 1 = cc in omega arith
 crossing-covered : Intersecting ≡ FullyCovered → ⊥
 crossing-covered e = let z : _≡_ {A = ℕ} 0 1 = cc in omega arith
 
-said-disjoint : (a b c d : Bool) → answer a b c d ≡ Disjoint → T a
+pub said-disjoint : (a b c d : Bool) → answer a b c d ≡ Disjoint → T a
 said-disjoint true b c d e = tt
 said-disjoint false true c d e = covered-disjoint e
 said-disjoint false false true d e = crossing-disjoint e
 said-disjoint false false false true e = covered-disjoint e
 said-disjoint false false false false e = crossing-disjoint e
 
-said-covered : {A : Type 0} (a b c d : Bool) → answer a b c d ≡ FullyCovered → (T b → A) → (T d → A) → A
+pub said-covered : {A : Type 0} (a b c d : Bool) → answer a b c d ≡ FullyCovered → (T b → A) → (T d → A) → A
 said-covered true b c d e f g = absurd (covered-disjoint (sym e))
 said-covered false true c d e f g = f tt
 said-covered false false true d e f g = absurd (crossing-covered e)
@@ -84,6 +84,15 @@ never-crossing : (a b c d : Bool) → (T (not a) → T b) → answer a b c d ≡
 never-crossing true b c d f e = crossing-disjoint (sym e)
 never-crossing false true c d f e = crossing-covered (sym e)
 never-crossing false false c d f e = f tt
+
+pub says-disjoint : (a b c d : Bool) → (T (not a) → ⊥) → answer a b c d ≡ Disjoint
+says-disjoint true b c d f = refl
+says-disjoint false b c d f = absurd (f tt)
+
+pub says-covered : (a b c d : Bool) → T (not a) → T b → answer a b c d ≡ FullyCovered
+says-covered true b c d h k = absurd h
+says-covered false true c d h k = refl
+says-covered false false c d h k = absurd k
 
 -- the box of level l in which the frame ys lies, against the frame qs
 module _ {d : ℕ} {t : Float} {τ : ℕ} (S : Scale d t τ) (l : ℕ) (ll : l ≤ 11) (qs ys : Frame) (c : Pair qs ys) (lq : length qs ≡ d) (ly : length ys ≡ d) (ext : Float) (E : Extended ext) where

@@ -112,12 +112,12 @@ pub data Member (k : List Float) : List (List Float) → Type 0 where
   here : {ls : List (List Float)} → Member k (k ∷ ls)
   there : {l : List Float} {ls : List (List Float)} → Member k ls → Member k (l ∷ ls)
 
-in-low : (x y : Float) (k : List Float) (ls : List (List Float)) → Member k ls → Member (x ∷ k) (both x y ls)
+pub in-low : (x y : Float) (k : List Float) (ls : List (List Float)) → Member k ls → Member (x ∷ k) (both x y ls)
 unfolding both
 in-low x y k (_ ∷ ls) here = here
 in-low x y k (l ∷ ls) (there m) = there (there (in-low x y k ls m))
 
-in-high : (x y : Float) (k : List Float) (ls : List (List Float)) → Member k ls → Member (y ∷ k) (both x y ls)
+pub in-high : (x y : Float) (k : List Float) (ls : List (List Float)) → Member k ls → Member (y ∷ k) (both x y ls)
 unfolding both
 in-high x y k (_ ∷ ls) here = there here
 in-high x y k (l ∷ ls) (there m) = there (there (in-high x y k ls m))

@@ -136,7 +136,7 @@ acc-le c A Q u U b f h = le-of-mul-le-mul-left {k = 2 ^ 52 * u}
     ⊞ num ((2 ^ 104 - 2 ^ 102 - 2 ^ 63 - 2 ^ 62) * (u * u))) (search poly depth 30) done) (mul-pos (lit< tt) U)
 
 -- a sum of two values that are not negative
-sum-close : (x y : Float) → Good x → Good y → sign x ≡ false → sign y ≡ false → mag x + mag y ≤ 2 ^ 100 * unit
+pub sum-close : (x y : Float) → Good x → Good y → sign x ≡ false → sign y ≡ false → mag x + mag y ≤ 2 ^ 100 * unit
     → Good (add binary64 x y) × (sign (add binary64 x y) ≡ false) × Close (mag (add binary64 x y)) (mag x + mag y) 1
 sum-close x y g k s t b =
     let r = near-units false (mag x + mag y) b in
@@ -260,7 +260,7 @@ pub same-short : (n : ℕ) (qs : List Float) → length qs ≤ 4 → squares (sa
 same-short n qs h = le-trans (le-of-eq (same-squares n qs)) (le-trans (mul-le-mul-right (n * n) h) (le-of-eq (ringℕ (n ∷ []) (search poly depth 30) done)))
 
 -- ---- the distance
-root-up : (z K t : ℕ) → 2 ^ 60 ≤ t → K ≤ 2 ^ 57 * t → 2 ^ 50 * z ≤ 2 ^ 50 * K + K + 2 ^ 50 → z ≤ K + 129 * t
+pub root-up : (z K t : ℕ) → 2 ^ 60 ≤ t → K ≤ 2 ^ 57 * t → 2 ^ 50 * z ≤ 2 ^ 50 * K + K + 2 ^ 50 → z ≤ K + 129 * t
 root-up z K t l b h = omega arith
 
 root-down : (z K t : ℕ) → 2 ^ 60 ≤ t → z ≤ 2 ^ 55 * t → 2 ^ 50 * K ≤ 2 ^ 50 * z + z + 2 ^ 50 → K ≤ z + 33 * t

@@ -14,6 +14,7 @@ pub mod InBox
 pub mod Sides
 pub mod Tests
 pub mod Corners
+pub mod Farthest
 pub mod WholeFrames
 pub mod WholeDistance
 pub mod Answers
@@ -23,3 +24,6 @@ pub mod Ready
 pub mod Indexes
 pub mod Sound
 pub mod Reach
+pub mod BySum
+pub mod Settled
+pub mod SettledLaws

@@ -27,6 +27,18 @@ unfoldable pub reaches : (box : ℕ → ℕ → IntersectionType) → ℕ → �
 reaches box zero l x = onBox (box l x) true
 reaches box (suc k) l x = onBox (box l x) (reaches box k (suc l) x)
 
+-- a path whose first box settles it
+module _ (box : ℕ → ℕ → IntersectionType) (x : ℕ) where
+  pub path-disjoint : (k l : ℕ) → box l x ≡ Disjoint → reaches box k l x ≡ false
+  unfolding reaches
+  path-disjoint zero l e = rw e
+  path-disjoint (suc k) l e = rw e
+
+  pub path-covered : (k l : ℕ) → box l x ≡ FullyCovered → reaches box k l x ≡ true
+  unfolding reaches
+  path-covered zero l e = rw e
+  path-covered (suc k) l e = rw e
+
 -- the count of a node whose children `children` gives, in any order
 unfoldable pub countedBy : (children : ℕ → List ℕ → List (List ℕ)) → (box : ℕ → ℕ → IntersectionType) → ℕ → ℕ → List ℕ → List ℕ
 countedBy children box zero l xs = byBox (box l (headOr 0 xs)) xs xs

@@ -6,25 +6,18 @@ use Prim.Native.Nat.{ℕ, zero, suc, _+_, _-_, _*_, _^_, _≤_, _<_}
 use native.Mathlib.Nat.{one-mul, le-trans, le-of-eq, mul-le-mul-left, mul-le-mul-right, mul-pos, mul-assoc, mul-one, mul-left-comm, pow-succ', not-le-of-lt, le-of-lt, le-of-mul-le-mul-left, le-of-mul-le-mul-right}
 use native.Mathlib.Omega.{arith, by-contra}
 use lib.IntN.{pos}
-use lib.Dec.{T, lit<, lit≤}
-use lib.Ieee.{Float, nan, inf, fin, binary64, mul, div, ofInt, unlike}
+use lib.Dec.{lit<, lit≤}
+use lib.Ieee.{Float, binary64, mul, div, ofInt, unlike}
 use lib.Ieee.Fits.{mul-fits}
-use lib.Ieee.Scale.{finite}
 use Rattle.ring.specs.Ring.{ringℕ, poly, done}
 use Rattle.ring.specs.Order.{belowℕ, equalℕ, num, slackℕ, _⊞_, _⊠_, nil, diffℕ, _⊕_, _⊙_}
 use Rattle.ieee754.specs.Value.{unit, unit-pos, tiny, unit-tiny, tiny-large, speck, tiny-speck, speck-large, mag, sign, Good, Is, Close, close-twice, Rounded}
 use Rattle.ieee754.specs.Ops.{mul-near}
-use Rattle.ieee754.specs.Exact.{Rep, div-exact, ofInt-pos, fits-good}
+use Rattle.ieee754.specs.Exact.{Rep, div-exact, ofInt-pos, fits-good, good-finite}
 use Rattle.ieee754.specs.Root.{root}
 use Rattle.ieee754.specs.RootLaw.{root-near}
 use Rattle.hyperparams.specs.Params.{float}
 use Rattle.counting_tree.specs.Grid.{rootChannels}
-
-pub good-finite : (x : Float) → Good x → T (finite x)
-unfolding Good
-good-finite nan g = absurd g
-good-finite (inf s) g = absurd g
-good-finite (fin s m e) g = tt
 
 -- ---- a large enough number that the format holds is even, and its half is one too
 pub record Half (n : ℕ) : Type 0 where
@@ -132,7 +125,7 @@ half-speck = go unit tiny speck unit-tiny tiny-speck
     go : (u t s : ℕ) → u ≡ 2 ^ 36 * t → t ≡ 2 ^ 12 * s → 2 * s ≤ u
     go u t s a b = omega arith
 
-unit-large : 2 ^ 70 ≤ unit
+pub unit-large : 2 ^ 70 ≤ unit
 unit-large = go unit tiny unit-tiny tiny-large
   where
     go : (u t : ℕ) → u ≡ 2 ^ 36 * t → 2 ^ 60 ≤ t → 2 ^ 70 ≤ u

@@ -3,7 +3,7 @@ use mathlib.Core.Path.{_≡_, sym, ap, _∙_, subst}
 use mathlib.Core.Bool.{Bool, false}
 use mathlib.Core.List.{[], _∷_}
 use Prim.Native.Nat.{ℕ, zero, suc, _+_, _-_, _*_, _^_, _≤_, _<_}
-use native.Mathlib.Nat.{le-trans, le-of-eq, mul-le-mul-right, mul-pos, one-mul, le-suc, le-of-mul-le-mul-left}
+use native.Mathlib.Nat.{le-trans, le-of-eq, lt-of-le-of-lt, mul-le-mul-right, mul-pos, one-mul, le-suc, le-of-mul-le-mul-left}
 use native.Mathlib.Omega.{arith}
 use lib.IntN.{pos}
 use lib.Dec.{T, lit<}
@@ -14,8 +14,8 @@ use Rattle.ring.specs.Ring.{ringℕ, poly, done}
 use Rattle.ring.specs.Order.{belowℕ, num, slackℕ, _⊞_, _⊠_, nil, diffℕ, _⊕_, _⊙_}
 use Rattle.ieee754.specs.Value.{unit, unit-pos, tiny, unit-tiny, tiny-large, speck, mag, sign, Good, Is, Rounded}
 use Rattle.ieee754.specs.Ops.{div-near}
-use Rattle.ieee754.specs.Exact.{Rep, fits-good}
-use Rattle.counting_tree.specs.Radius.{unit-speck, Side, rep-half, half-is, channels, good-finite, radius, radius-is}
+use Rattle.ieee754.specs.Exact.{Rep, rep-whole, fits-good, good-finite}
+use Rattle.counting_tree.specs.Radius.{unit-speck, Side, rep-half, half-is, channels, radius, radius-is}
 use Rattle.counting_tree.specs.Grid.{half, rootChannels, sideAt}
 
 -- ---- numbers: S / u is T / r rounded; r is a root of 1 to 4
@@ -52,6 +52,9 @@ tolerance-low S = le-trans (le-of-eq (sym (one-mul unit))) (le-trans (mul-le-mul
 
 pub tolerance-high : {d : ℕ} {t : Float} {τ : ℕ} → Scale d t τ → mag t ≤ 65535 * unit
 tolerance-high S = le-trans (le-of-eq (S .is .mag-is)) (mul-le-mul-right unit (S .high))
+
+pub tolerance-rep : {d : ℕ} {t : Float} {τ : ℕ} → Scale d t τ → Rep (mag t)
+tolerance-rep {τ = τ} S = subst Rep (sym (S .is .mag-is)) (rep-whole τ (lt-of-le-of-lt (S .high) (lit< tt)))
 
 -- a side 2 ^ l times smaller than the base side
 pub record AtLevel (d : ℕ) (t : Float) (l : ℕ) : Type 0 where
@@ -134,9 +137,24 @@ product-high S S₀ T R hh r u t p e l a b h s c d = le-of-mul-le-mul-left {k = 
     ⊞ num ((2 ^ 117 - 2 ^ 116 - 3 * (2 ^ 53 + 1) * 2 ^ 52) * u + (2 ^ 108 - (2 ^ 54 + 1) * 65535 * 2 ^ 36 - 2 ^ 57) * (t * u))
     ⊞ nil (pos (2 ^ 53 * (2 ^ 53 + 1) * r) ⊙ diffℕ (sym s) ⊕ pos ((2 ^ 54 + 1) * 65535 * u) ⊙ diffℕ (sym e))) (search poly depth 99 fits 9999) done) (mul-pos (lit< tt) p)
 
+product-low : (S S₀ T R hh r u t : ℕ) → 0 < u → u ≡ 2 ^ 36 * t → 2 ^ 60 ≤ t → R ≤ 2 ^ 11 → T ≤ 65535 * u → r ≤ 3 * u → R * S ≡ S₀
+    → 2 ^ 53 * (T * u) ≤ 2 ^ 53 * (S₀ * r) + T * u + 2 ^ 52 * r → 2 ^ 53 * (S * r) ≤ 2 ^ 53 * (2 * hh * u) + S * r + 2 ^ 52 * u → T ≤ R * (2 * hh) + 4 * t
+product-low S S₀ T R hh r u t p e l a b h s c d = le-of-mul-le-mul-left {k = 2 ^ 106 * u}
+    (belowℕ (S ∷ S₀ ∷ T ∷ R ∷ hh ∷ r ∷ u ∷ t ∷ [])
+    (num (2 ^ 53 * R) ⊠ slackℕ d ⊞ num (2 ^ 53 - 1) ⊠ slackℕ c ⊞ num ((2 ^ 54 - 1) * u) ⊠ slackℕ b ⊞ num ((2 ^ 53 - 1) * 2 ^ 52) ⊠ slackℕ h ⊞ num (2 ^ 105 * u) ⊠ slackℕ a ⊞ num (2 ^ 57 * u) ⊠ slackℕ l
+    ⊞ num ((2 ^ 117 - 2 ^ 116 - 3 * (2 ^ 53 - 1) * 2 ^ 52) * u + (2 ^ 108 - (2 ^ 54 - 1) * 65535 * 2 ^ 36 - 2 ^ 57) * (t * u))
+    ⊞ nil (pos (2 ^ 53 * (2 ^ 53 - 1) * r) ⊙ diffℕ s ⊕ pos ((2 ^ 54 - 1) * 65535 * u) ⊙ diffℕ (sym e))) (search poly depth 99 fits 9999) done) (mul-pos (lit< tt) p)
+
 pub radius-high : {d : ℕ} {t : Float} {τ : ℕ} → Scale d t τ → (l : ℕ) → l ≤ 11 → 2 ^ l * (2 * mag (radius d (sideAt d t l))) ≤ mag t + 4 * tiny
 radius-high {d} {t} S l h =
     let r = radius-is d (sideAt d t l) (S .some) (S .most) (level-side S l h) in
     let c = channels d (S .some) (S .most) in
     product-high (mag (sideAt d t l)) (mag (sideAt d t 0)) (mag t) (2 ^ l) (mag (radius d (sideAt d t l))) (mag (rootChannels d)) unit tiny
     unit-pos unit-tiny tiny-large (pow-mono h) (tolerance-high S) (c .small) (level S l h .scaled) (base-near S .close .0) (r .product .0)
+
+pub radius-low : {d : ℕ} {t : Float} {τ : ℕ} → Scale d t τ → (l : ℕ) → l ≤ 11 → mag t ≤ 2 ^ l * (2 * mag (radius d (sideAt d t l))) + 4 * tiny
+radius-low {d} {t} S l h =
+    let r = radius-is d (sideAt d t l) (S .some) (S .most) (level-side S l h) in
+    let c = channels d (S .some) (S .most) in
+    product-low (mag (sideAt d t l)) (mag (sideAt d t 0)) (mag t) (2 ^ l) (mag (radius d (sideAt d t l))) (mag (rootChannels d)) unit tiny
+    unit-pos unit-tiny tiny-large (pow-mono h) (tolerance-high S) (c .small) (level S l h .scaled) (base-near S .close .1) (r .product .1)

@@ -6,7 +6,7 @@ use Prim.Native.Nat.{ℕ, _+_, _*_, _^_, _≤_, _<_}
 use native.Mathlib.Nat.{le-trans, le-of-eq, le-refl, lt-of-le-of-lt, mul-le-mul-right, add-le-add}
 use native.Mathlib.Omega.{arith}
 use lib.IntN.{pos}
-use lib.Dec.{T, leb→le, le→leb, nltb→le, T-not, lit<, lit≤}
+use lib.Dec.{T, leb→le, le→leb, nltb→le, T-not, lit≤}
 use lib.Pow.{pow-pos, pow-mono}
 use lib.ListN.{length}
 use lib.Arith.{le→nltb}
@@ -18,13 +18,13 @@ use Rattle.ring.specs.InnerProduct.{squares, Tri, none, more, triangle}
 use Rattle.ieee754.specs.Value.{unit, tiny, unit-tiny, tiny-large, mag, sign, Good}
 use Rattle.ieee754.specs.Ops.{plus, minus, plus-pos, minus-pos, Approx, SumOf, add-of, sub-of, sum-approx}
 use Rattle.ieee754.specs.Compare.{lt-is, le-is}
-use Rattle.ieee754.specs.Exact.{Rep, rep-whole, sum-le}
+use Rattle.ieee754.specs.Exact.{Rep, sum-le}
 use Rattle.ieee754.specs.Abs.{approx-abs}
 use Rattle.counting_tree.specs.Distance.{gap, gaps, Near, no-more, one, same, same-short, same-squares, dist-high, dist-good}
 use Rattle.counting_tree.specs.Margins.{not-far, within-reach, last-level, gap-triangle, gap-comm, reach-sum}
 use Rattle.counting_tree.specs.Radius.{Radius, radius, radius-is}
 use Rattle.counting_tree.specs.Grid.{sideAt}
-use Rattle.counting_tree.specs.Sides.{Scale, tolerance-low, tolerance-high, level-side, radius-high}
+use Rattle.counting_tree.specs.Sides.{Scale, tolerance-low, tolerance-high, tolerance-rep, level-side, radius-high}
 use Rattle.counting_tree.specs.Box.{distance}
 
 -- ---- a frame under a box: each coordinate within half the side of the centre, but for 6 * 2 ^ -36
@@ -46,13 +46,13 @@ under-squares H hh {xs} {cs} u l h =
     sum hh t = omega arith
 
 -- ---- the tests, of a distance D and a radius h, by their sizes
-record Sizes (D h : Float) : Type 0 where
-  D-good : Good D
-  D-sign : sign D ≡ false
-  h-good : Good h
-  h-sign : sign h ≡ false
-  D-small : mag D ≤ 2 ^ 20 * unit
-  h-small : mag h ≤ 2 ^ 17 * unit
+pub record Sizes (D h : Float) : Type 0 where
+  pub D-good : Good D
+  pub D-sign : sign D ≡ false
+  pub h-good : Good h
+  pub h-sign : sign h ≡ false
+  pub D-small : mag D ≤ 2 ^ 20 * unit
+  pub h-small : mag h ≤ 2 ^ 17 * unit
 
 err : (u t : ℕ) → u ≡ 2 ^ 36 * t → 2 ^ 60 ≤ t → 2 ^ 21 * u + 2 ^ 52 ≤ 2 ^ 53 * (32 * t)
 err u t e l = omega arith
@@ -102,7 +102,7 @@ module _ (D h : Float) (s : Sizes D h) where
     mt = minus-pos t k
 
     -- the exact D - h is at most t, so the rounded one is
-    sub-le-test : Rep (mag t) → mag t ≤ 2 ^ 100 * unit → mag D ≤ mag t + mag h → T (not (lt t (sub binary64 D h)))
+    pub sub-le-test : Rep (mag t) → mag t ≤ 2 ^ 100 * unit → mag D ≤ mag t + mag h → T (not (lt t (sub binary64 D h)))
     sub-le-test r b l =
         let z = sub binary64 D h in
         let q : plus z ≤ mag t + minus z = sum-le z (plus D + minus h) (minus D + plus h) (mag t) sub-sum r b (first (plus D) (minus D) (plus h) (minus h) (mag D) (mag h) (mag t) pD mD ph mh l) (second (plus D) (minus D) (plus h) (minus h) (mag h) unit mD ph (s .h-small)) in
@@ -117,7 +117,7 @@ module _ (D h : Float) (s : Sizes D h) where
         third : (a b c d t : ℕ) → a ≡ t → b ≡ 0 → c ≤ t + d → c + b ≤ a + d
         third a b c d t e f g = omega arith
 
-    not-lt-sub : T (not (lt t (sub binary64 D h))) → mag D ≤ mag t + mag h + 32 * tiny
+    pub not-lt-sub : T (not (lt t (sub binary64 D h))) → mag D ≤ mag t + mag h + 32 * tiny
     not-lt-sub n =
         let z = sub binary64 D h in
         let q : plus z + minus t ≤ plus t + minus z = nltb→le (plus t + minus z) (plus z + minus t) (subst (λ (w : Bool). T (not w)) (lt-is t z g (sub-approx .good)) n) in
@@ -127,7 +127,7 @@ module _ (D h : Float) (s : Sizes D h) where
         last : (a b c d e f g h x y t w : ℕ) → a ≡ x → b ≡ 0 → c ≡ y → d ≡ 0 → e ≡ t → f ≡ 0 → g + f ≤ e + h → a + d + h ≤ g + (b + c) + 32 * w → x ≤ t + y + 32 * w
         last a b c d e f g h x y t w i j k l m n o p = omega arith
 
-    le-add-test : Rep (mag t) → mag t ≤ 2 ^ 100 * unit → mag D + mag h ≤ mag t → T (le (add binary64 D h) t)
+    pub le-add-test : Rep (mag t) → mag t ≤ 2 ^ 100 * unit → mag D + mag h ≤ mag t → T (le (add binary64 D h) t)
     le-add-test r b l =
         let z = add binary64 D h in
         let q : plus z ≤ mag t + minus z = sum-le z (plus D + plus h) (minus D + minus h) (mag t) add-sum r b (first (plus D) (minus D) (plus h) (minus h) (mag D) (mag h) (mag t) pD mD ph mh l) (second (plus D) (minus D) (plus h) (minus h) unit mD mh) in
@@ -182,7 +182,7 @@ module _ {d : ℕ} {t : Float} {τ : ℕ} (S : Scale d t τ) (l : ℕ) (ll : l �
       dist-high near four (2 ^ 19 * unit) (le-of-eq (equalℕ (unit ∷ tiny ∷ []) (pos (2 ^ 19) ⊙ diffℕ unit-tiny) (search poly depth 30) done))
       (le-trans (far near) (le-trans (same-short (2 ^ 18 * unit) qs four) (le-of-eq (ringℕ (unit ∷ []) (search poly depth 30) done))))
 
-  sizes : Sizes (distance qs cs) (radius d (sideAt d t l))
+  pub sizes : Sizes (distance qs cs) (radius d (sideAt d t l))
   sizes = record { D-good = dist-good near four .0; D-sign = dist-good near four .1; h-good = h-ok .good; h-sign = h-ok .sign-is; D-small = le-trans D-le (more-room unit tiny unit-tiny); h-small = h-le }
     where
       more-room : (u y : ℕ) → u ≡ 2 ^ 36 * y → 2 ^ 19 * u + 512 * y ≤ 2 ^ 20 * u
@@ -196,7 +196,7 @@ module _ {d : ℕ} {t : Float} {τ : ℕ} (S : Scale d t τ) (l : ℕ) (ll : l �
     pub disjoint-right : (N : ℕ) → squares (gaps qs xs) ≤ N * (unit * unit) → T (lt t (sub binary64 (distance qs cs) (radius d (sideAt d t l)))) → N < τ * τ → ⊥
     disjoint-right N q f g =
         T-not (lt t (sub binary64 (distance qs cs) (radius d (sideAt d t l))))
-        (sub-le-test (distance qs cs) (radius d (sideAt d t l)) sizes t (S .is .good) (S .is .sign-is) (subst Rep (sym (S .is .mag-is)) (rep-whole τ (lt-of-le-of-lt (S .high) (lit< tt)))) (le-trans (tolerance-high S) (mul-le-mul-right unit (lit≤ tt)))
+        (sub-le-test (distance qs cs) (radius d (sideAt d t l)) sizes t (S .is .good) (S .is .sign-is) (tolerance-rep S) (le-trans (tolerance-high S) (mul-le-mul-right unit (lit≤ tt)))
         (subst (λ (w : ℕ). mag (distance qs cs) ≤ w + mag (radius d (sideAt d t l))) (sym (S .is .mag-is)) (not-far near n k four N τ (mag (radius d (sideAt d t l))) q g (le-trans (S .high) (lit≤ tt)) frames h-le)))
         f
 

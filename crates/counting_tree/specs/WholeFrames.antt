@@ -158,7 +158,7 @@ near-under : (H : ℕ) → H ≤ 2 ^ 15 * unit → {xs cs : List Float} → Unde
 near-under H h Tests.no-channel = no-more
 near-under H h (Tests.channel {x} {c} gx gc v u) = one gx gc (box-gap (gap x c) H unit tiny unit-tiny h v) (near-under H h u)
 
-length-floats : (xs : Frame) → length (floats xs) ≡ length xs
+pub length-floats : (xs : Frame) → length (floats xs) ≡ length xs
 length-floats xs = length-map xs (ofInt binary64)
 
 -- ---- the frame y in its own box of level l, against q
@@ -172,20 +172,23 @@ module _ {d : ℕ} {t : Float} {τ : ℕ} (S : Scale d t τ) (l : ℕ) (ll : l �
   a : Around H (floats qs) (floats ys) (centres (sideAt d t l) ys)
   a = around (sideAt d t l) sd c
 
+  pub near-centre : Near (floats qs) (centres (sideAt d t l) ys)
+  near-centre = near-around H a
+
   u : Under H (floats ys) (centres (sideAt d t l) ys)
   u = under-around H a
 
   -- a box that passes the test of Disjoint has no frame with N < t * t
   pub disjoint-frames : T (lt t (sub binary64 (distance (floats qs) (centres (sideAt d t l) ys)) (radius d (sideAt d t l)))) → squared qs ys < τ * τ → ⊥
   disjoint-frames f g =
-      disjoint-right S l ll (floats qs) (centres (sideAt d t l) ys) (near-around H a) (length-floats qs ∙ lq) H (side-half (sideAt d t l) sd .twice) (floats ys) (near-floats c) (near-under H (half-le (sideAt d t l) sd) u) u (length-floats ys ∙ ly)
+      disjoint-right S l ll (floats qs) (centres (sideAt d t l) ys) near-centre (length-floats qs ∙ lq) H (side-half (sideAt d t l) sd .twice) (floats ys) (near-floats c) (near-under H (half-le (sideAt d t l) sd) u) u (length-floats ys ∙ ly)
       (squared qs ys) (le-of-eq (squares-squared c)) f g
 
   -- a box that passes the first test of FullyCovered has only frames within the far reach: N < ext * ext + 1
   pub covered-frames : (ext : Float) → Extended ext → T (le (add binary64 (distance (floats qs) (centres (sideAt d t l) ys)) (radius d (sideAt d t l))) ext) → squared qs ys * (unit * unit) < mag ext * mag ext + unit * unit
   covered-frames ext E f =
       subst (λ (n : ℕ). n < mag ext * mag ext + unit * unit) (squares-squared c)
-      (covered-right S l ll (floats qs) (centres (sideAt d t l) ys) (near-around H a) (length-floats qs ∙ lq) H (side-half (sideAt d t l) sd .twice) (floats ys) (near-floats c) (near-under H (half-le (sideAt d t l) sd) u) u (length-floats ys ∙ ly) ext E f)
+      (covered-right S l ll (floats qs) (centres (sideAt d t l) ys) near-centre (length-floats qs ∙ lq) H (side-half (sideAt d t l) sd .twice) (floats ys) (near-floats c) (near-under H (half-le (sideAt d t l) sd) u) u (length-floats ys ∙ ly) ext E f)
 
   -- and so one whose farthest corner is nearer than the extended tolerance
   pub corner-frames : (ext : Float) → Extended ext → T (lt (farthest (floats qs) (corners (centres (sideAt d t l) ys) (half (sideAt d t l)))) ext) → squared qs ys * (unit * unit) < mag ext * mag ext + unit * unit
@@ -196,7 +199,7 @@ module _ {d : ℕ} {t : Float} {τ : ℕ} (S : Scale d t τ) (l : ℕ) (ll : l �
   -- at the last level a box passes the test of Disjoint or the first of FullyCovered
   pub last-frames : (ext : Float) → Extended ext → 2 ^ l * mag ext ≡ 2 ^ l * mag t + 2 * mag t
       → T (not (lt t (sub binary64 (distance (floats qs) (centres (sideAt d t l) ys)) (radius d (sideAt d t l))))) → T (le (add binary64 (distance (floats qs) (centres (sideAt d t l) ys)) (radius d (sideAt d t l))) ext)
-  last-frames ext E x f = last-decides S l ll (floats qs) (centres (sideAt d t l) ys) (near-around H a) (length-floats qs ∙ lq) ext E x f
+  last-frames ext E x f = last-decides S l ll (floats qs) (centres (sideAt d t l) ys) near-centre (length-floats qs ∙ lq) ext E x f
 
 -- two frames of one cell: N ≤ t * t
 pub cell-frames : {d : ℕ} {t : Float} {τ : ℕ} → Scale d t τ → (ys zs : Frame) → Pair ys zs → Pair zs ys → indexes (sideAt d t 0) ys ≡ indexes (sideAt d t 0) zs → length ys ≡ d → squared ys zs ≤ τ * τ

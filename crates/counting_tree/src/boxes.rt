@@ -50,7 +50,7 @@ pub fn box_of(frame: [i16; 4], side: f64, channels: usize) -> Box
 }
 
 // "differences squared and added from channel 0 up, each operation rounded once"
-fn square_sum(q: [f64; 4], p: [f64; 4], channels: usize) -> f64
+pub fn square_sum(q: [f64; 4], p: [f64; 4], channels: usize) -> f64
     requires { ⌜ channels ≤ 4 ⌝ }
     ensures { λ r. ⌜ r ≡ sumFrom (float 0) (take channels q) (take channels p) ⌝ }
 {
@@ -164,6 +164,10 @@ pub fn determine_intersection(
     }
     let e = half_side(side);
     if d - e <= t {
+        return IntersectionType::Intersecting;
+    }
+    // with a side above 0, no rounding brings the farthest corner nearer than the centre
+    if appx <= d && 0.0 < e {
         return IntersectionType::Intersecting;
     }
     let all = get_corners(centre, side, channels);

@@ -2,6 +2,7 @@
 
 pub mod boxes;
 pub mod grid;
+pub mod paths;
 pub mod points;
 
 // A box: its centre, of which the first coordinates up to the number of channels count, and its side.

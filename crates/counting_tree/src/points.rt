@@ -6,7 +6,11 @@ ghost use lib.IntN.{pos, _+ℤ_};
 ghost use lib.ListN.{length, take};
 ghost use lib.Ieee.{binary64, ofInt};
 ghost use Rattle.lists.specs.Words.{part};
+ghost use Rattle.counting_tree.specs.Frames as Frames;
 ghost use Rattle.counting_tree.specs.Frames.{framesIn, apart};
+ghost use Rattle.counting_tree.specs.Box.{sumFrom};
+ghost use Rattle.counting_tree.specs.Settled.{settledBy};
+ghost use Rattle.hyperparams.specs.Params.{float};
 ghost use Rattle.counting_tree.specs.Grid.{indexes};
 ghost use Rattle.counting_tree.specs.Geometry.{frame, N, sameInts, boxAt};
 ghost use Rattle.counting_tree.specs.Arrays.{placed};
@@ -15,7 +19,9 @@ ghost use Rattle.counting_tree.specs.Domain.{Counts};
 ghost use Rattle.counting_tree.specs.Ready.{Ready, geometryAt};
 use super::boxes::box_of;
 use super::boxes::determine_intersection;
+use super::boxes::square_sum;
 use super::grid::cell_index;
+use crate::Box;
 use crate::IntersectionType;
 use hyperparams::ValidParams;
 
@@ -211,4 +217,26 @@ pub fn classify(
     let b = frame_at(points, v.channels, x);
     let place = box_of(b, side, v.channels);
     determine_intersection(place, floats(a), v.channels, v.tolerance, v.appx_tolerance)
+}
+
+// What whole numbers tell of the root box `place` against frame q, with no root: Disjoint or FullyCovered where they settle it, else Intersecting, which says nothing.
+pub fn settled(points: &[i16], v: ValidParams, n: usize, q: usize, place: Box) -> IntersectionType
+    requires { ⌜ Ready (now points) v n × (q < n) ⌝ }
+    ensures { λ r. ⌜ r ≡ settledBy v (sumFrom (float 0) (Frames.floats (frame v (framesIn n (v .channels) (now (points .entry))) q)) (take (v .channels) (place .centre))) ⌝ }
+{
+    let a = frame_at(points, v.channels, q);
+    let centre = place.centre;
+    let sum = square_sum(floats(a), centre, v.channels);
+    // the distance less half the diagonal, t / 2, is over t
+    let far = 9 * (v.t * v.t) + 1;
+    if sum * 4.0 >= far as f64 {
+        return IntersectionType::Disjoint;
+    }
+    // with half the diagonal it is at most the extended tolerance
+    let two = 1u64 << v.s;
+    let reach = v.t * (two + 2);
+    if (sum + 1.0) * ((4 * (two * two)) as f64) <= (reach * reach) as f64 {
+        return IntersectionType::FullyCovered;
+    }
+    IntersectionType::Intersecting
 }
