@@ -1,9 +1,9 @@
 -- Blocks in arrays: the counts of a frame as the program reads them, their edges, and a block compared and hashed channel by channel.
 use mathlib.Core.Path.{_≡_, refl, sym, ap, ap₂, _∙_}
 use mathlib.Core.Logic.{inl, inr}
-use mathlib.Core.Bool.{Bool, true, false, not, _&&_, and-true}
+use mathlib.Core.Bool.{Bool, true, false, not, _&&_, cond, and-true}
 use mathlib.Core.List.{List, [], _∷_, _++_}
-use Prim.Native.Nat.{ℕ, suc, _+_, _-_, _*_, _/_, _%_, _<_, _≤_}
+use Prim.Native.Nat.{ℕ, suc, _+_, _-_, _*_, _/_, _%_, _^_, _<_, _≤_}
 use native.Mathlib.Nat.{mul-le-mul, add-zero, sub-zero}
 use native.Mathlib.Omega.{arith}
 use lib.IntN.{ℤ, pos, _+ℤ_}
@@ -13,10 +13,11 @@ use lib.Seq.{getD-take, getD-drop, take-suc, drop-cons, length-take-le}
 use mir.Syntax.{w16, w64}
 use mir.Val.{Fits, SFits, toZ, ofZ}
 use mir.Facts.{toZ-ofZ}
-use borrow.Author.Tests.{eq-eqb}
+use borrow.Author.Tests.{le-leb, lt-leb, eq-eqb}
 use Rattle.lists.specs.Lists.{Below}
 use Rattle.lists.specs.Words.{over}
 use Rattle.lists.specs.Buckets.{mix, hashFrom, hashOf, bucket}
+use Rattle.lists.specs.OrderLaws.{below-at}
 use Rattle.lists.specs.WordLaws.{four-over}
 use Rattle.lists.specs.PartLaws.{part-same}
 use Rattle.lists.specs.ListLaws.{true-T, both-ways, not-turn, at-map}
@@ -26,14 +27,21 @@ use Rattle.counting_tree.specs.Frames.{Frame, framesIn}
 use Rattle.counting_tree.specs.FramesIn.{frame-at, frame-inside, frame-length}
 use Rattle.counting_tree.specs.Geometry.{frame}
 use Rattle.counting_tree.specs.Ready.{Ready}
-use Rattle.cells_grid.specs.Blocks.{raise, width, edge, edgesOf, keyOf, shifted, blockAt, sameNats}
-use Rattle.cells_grid.specs.BlockLaws.{raise-is, edge-le, edge-above, edge-is, shifted-take, block-multiple}
-use Rattle.cells_grid.specs.HashLaws.{hash-bucket}
+use Rattle.cells_grid.specs.Blocks.{raise, width, edge, edgesOf, keyOf, shifted, blockAt, second, ownBlock, sameNats}
+use Rattle.cells_grid.specs.BlockLaws.{raise-is, edge-le, edge-above, edge-is, shifted-take, own-below, block-multiple}
 
 -- ---- a count
 -- raised, as the program has it
 pub raised-is : (c : ℤ) (x : ℕ) → SFits w16 c → pos x ≡ toZ w16 (ofZ w16 c) +ℤ pos 32768 → x ≡ raise c
 raised-is c x f e = raise-is c x (f .sfits) (e ∙ ap (λ (z : ℤ). z +ℤ pos 32768) (toZ-ofZ f))
+
+-- whether it lies in the second of two blocks
+module _ (w low : ℕ) (c : ℤ) {x : ℕ} (e : x ≡ raise c) where
+  pub second-yes : low + w ≤ x → 1 ≡ second w low c
+  second-yes h = sym (ap (λ (b : Bool). cond b 1 0) (le-leb (low + w) (raise c) (omega (arith, e))))
+
+  pub second-no : x < low + w → 0 ≡ second w low c
+  second-no h = sym (ap (λ (b : Bool). cond b 1 0) (lt-leb (low + w) (raise c) (omega (arith, e))))
 
 module _ (w : ℕ) (p : 0 < w) (c : ℤ) {x : ℕ} (e : x ≡ raise c) where
   pub edge-zero : (down : ℕ) → x ≤ down → 0 ≡ edge w (raise c - down)
@@ -57,9 +65,16 @@ module _ (w : ℕ) (p : 0 < w) (c : ℤ) {x : ℕ} (e : x ≡ raise c) where
         (λ t. le→leb low x (omega (arith, e, edge-le w p (raise c), eqb→eq (edge w (raise c)) low t)))
 
 -- ---- an array of four
--- a multiple of the width that is one bit
-pub bit-small : (w m : ℕ) → w ≤ 1048576 → w * (m % 2) ≤ 1048576
-bit-small w m h = mul-le-mul {n₂ = 1048576} {m₂ = 1} h (omega arith)
+-- each entry, and the width by one bit
+pub four-small : (l : List ℕ) (w m : ℕ) → length l ≡ 4 → Below 65536 l → w ≤ 1048576
+    → ((getD l 0 0 < 65536) × (getD l 1 0 < 65536) × (getD l 2 0 < 65536) × (getD l 3 0 < 65536)) × ((w * (m % 2) ≤ 1048576) × (w * (m / 2 % 2) ≤ 1048576) × (w * (m / 4 % 2) ≤ 1048576) × (w * (m / 8 % 2) ≤ 1048576))
+four-small l w m e b h = ((low 0 (omega arith), low 1 (omega arith), low 2 (omega arith), low 3 (omega arith)), (bit m, bit (m / 2), bit (m / 4), bit (m / 8)))
+  where
+    low : (i : ℕ) → i < length l → getD l i 0 < 65536
+    low i k = below-at 65536 l i b k
+
+    bit : (k : ℕ) → w * (k % 2) ≤ 1048576
+    bit k = mul-le-mul {n₂ = 1048576} {m₂ = 1} h (omega arith)
 
 pub four-shifted : (l : List ℕ) (w m : ℕ) → length l ≡ 4
     → _≡_ {A = List ℕ} ((getD l 0 0 + w * (m % 2)) ∷ (getD l 1 0 + w * (m / 2 % 2)) ∷ (getD l 2 0 + w * (m / 4 % 2)) ∷ (getD l 3 0 + w * (m / 8 % 2)) ∷ []) (shifted w l m)
@@ -179,6 +194,28 @@ module _ {ps : List ℤ} {v : ValidParams} {n : ℕ} (r : Ready ps v n) (i : ℕ
       pub same-last : suc k ≡ v .channels → t ≡ sameFrom k
       same-last h = sym (split ∙ ap (λ (b : Bool). t && b) (sym (all-same (suc k) h)) ∙ and-true t)
 
+  -- the block in which it lies itself, from channel k on
+  module _ (w : ℕ) (es : List ℕ) (four : length es ≡ 4) where
+    abbrev pub ownFrom : ℕ → ℕ
+    ownFrom k = ownBlock w (drop k es) (drop k (frame v (framesIn n (v .channels) ps) i))
+
+    pub own-next : (k p x : ℕ) → k < v .channels → p ≡ i * v .channels + k → SFits w16 (getD ps p (pos 0)) → x ≡ second w (getD es k 0) (toZ w16 (ofZ w16 (getD ps p (pos 0)))) → ownFrom k ≡ x + 2 * ownFrom (suc k)
+    own-next k p x l e f q =
+        ap₂ (ownBlock w) (drop-cons es k 0 (omega (arith, r .settings .scale .most))) (drop-cons F k (pos 0) (omega (arith, long)))
+        ∙ ap (λ (y : ℕ). y + 2 * ownFrom (suc k)) (ap (second w (getD es k 0)) (count-at k p l e ∙ sym (toZ-ofZ f)) ∙ sym q)
+
+    pub own-end : (k : ℕ) → v .channels ≤ k → ownFrom k ≡ 0
+    own-end k h =
+        let a : length F ≤ k = omega (arith, long) in
+        ap (ownBlock w (drop k es)) (drop-of-length-le F a) ∙ none (drop k es)
+      where
+        none : (l : List ℕ) → ownBlock w l [] ≡ 0
+        none [] = refl
+        none (e ∷ l) = refl
+
+    pub own-is : {b : ℕ} → b ≡ ownFrom 0 → (b ≡ ownBlock w es (frame v (framesIn n (v .channels) ps) i)) × (b < 2 ^ v .channels)
+    own-is e = (e, omega (arith, e, own-below w es F, ap (λ (d : ℕ). 2 ^ d) long))
+
   -- ---- the bucket of its block
   module _ (w : ℕ) {low : List ℕ} {a b : ℕ} (e : low ≡ over (replicate 4 0) 0 (edgesOf w 0 (frame v (framesIn n (v .channels) ps) i))) (q : a ≡ hashOf (take (v .channels) low)) (s : b ≡ bucket (4 * n) a) where
     pub key-bucket : b ≡ bucket (4 * n) (hashOf (keyOf w (frame v (framesIn n (v .channels) ps) i)))
@@ -187,9 +224,6 @@ module _ {ps : List ℤ} {v : ValidParams} {n : ℕ} (r : Ready ps v n) (i : ℕ
         keys : (f : Frame) → edgesOf w 0 f ≡ keyOf w f
         keys [] = refl
         keys (c ∷ f) = ap₂ (λ (x : ℕ) (l : List ℕ). edge w x ∷ l) (sub-zero (raise c)) (keys f)
-
-    pub bucket-in : b < 4 * n
-    bucket-in = omega (arith, key-bucket, hash-bucket 0 v n ps (λ j. true) (keyOf w F) (omega arith))
 
 -- ---- blocks in arrays
 module _ (reach : ℕ) {d : ℕ} (f : Frame) (e : length f ≡ d) where

@@ -11,7 +11,7 @@ use lib.Pow.{pow-mono}
 use Rattle.lists.specs.Lists.{numbers, howMany, total, Below}
 use Rattle.lists.specs.Words.{over, Clear}
 use Rattle.lists.specs.ListLaws.{T-false, not-turn, and-right}
-use Rattle.lists.specs.OrderLaws.{kept-le}
+use Rattle.lists.specs.OrderLaws.{kept-le, total-round}
 use Rattle.lists.specs.CountLaws.{howMany-cons, length-concat}
 use Rattle.lists.specs.PermLaws.{perm-length}
 use Rattle.lists.specs.LoopLaws.{Sum, sum-start, sum-stop, sum-more, sum-end}
@@ -97,24 +97,33 @@ module _ {ps : List ℤ} {v : ValidParams} {n i : ℕ} (r : Ready ps v n) (c : C
       leb→le (squared (frameAt (v .t) v n ps i) (frameAt (v .t) v n ps j)) (v .t * v .t)
       (subst T (within-whole v fs (ready-domain r c) i j (omega (arith, e)) (omega (arith, e))) (and-right (listed g i j) (g .within i j) t))
 
-  crowd : total inBlockOf (numbers (2 ^ v .channels)) ≡ howMany (neighbour g i) (numbers n)
-  unfolding inBlocks
-  crowd = sym (length-concat (inBlock (v .t) v n ps i (neighbour g i)) (numbers (2 ^ v .channels))) ∙ perm-length (by-blocks (v .t) v n ps (r .room) i h (neighbour g i) near)
+  -- counted from block b on, and round
+  module _ {b : ℕ} (k : b < 2 ^ v .channels) where
+    -- how many lie in the block j after it
+    abbrev pub turnedOf : ℕ → ℕ
+    turnedOf j = inBlockOf ((b + j) % 2 ^ v .channels)
 
-  pub blocks-start : Sum inBlockOf (2 ^ v .channels) (g .least) 0 0
-  blocks-start = sum-start (omega (arith, at-least v n ps, r .least))
+    crowd : total turnedOf (numbers (2 ^ v .channels)) ≡ howMany (neighbour g i) (numbers n)
+    unfolding inBlocks
+    crowd =
+        total-round inBlockOf b (2 ^ v .channels) k
+        ∙ sym (length-concat (inBlock (v .t) v n ps i (neighbour g i)) (numbers (2 ^ v .channels)))
+        ∙ perm-length (by-blocks (v .t) v n ps (r .room) i h (neighbour g i) near)
 
-  module _ {m count more : ℕ} (s : Sum inBlockOf (2 ^ v .channels) (g .least) count m) (l : m < 2 ^ v .channels) (q : more ≡ min (g .least) (count + inBlockOf m)) where
-    pub blocks-stop : v .«min_points» ≤ more → true ≡ leb (g .least) (howMany (neighbour g i) (numbers n))
-    blocks-stop k = sym (ap (leb (g .least)) (sym crowd) ∙ sum-stop s l refl (omega (arith, q, at-least v n ps)))
+    pub blocks-start : Sum turnedOf (2 ^ v .channels) (g .least) 0 0
+    blocks-start = sum-start (omega (arith, at-least v n ps, r .least))
 
-    pub blocks-more : more < v .«min_points» → Sum inBlockOf (2 ^ v .channels) (g .least) more (m + 1)
-    blocks-more k =
-        let e : count + inBlockOf m ≡ more = omega (arith, q, at-least v n ps) in
-        subst (λ (z : ℕ). Sum inBlockOf (2 ^ v .channels) (g .least) z (m + 1)) e (sum-more s l refl (omega (arith, e, at-least v n ps)))
+    module _ {m count more : ℕ} (s : Sum turnedOf (2 ^ v .channels) (g .least) count m) (l : m < 2 ^ v .channels) (q : more ≡ min (g .least) (count + turnedOf m)) where
+      pub blocks-stop : v .«min_points» ≤ more → true ≡ leb (g .least) (howMany (neighbour g i) (numbers n))
+      blocks-stop k = sym (ap (leb (g .least)) (sym crowd) ∙ sum-stop s l refl (omega (arith, q, at-least v n ps)))
 
-  pub blocks-end : {m count : ℕ} → Sum inBlockOf (2 ^ v .channels) (g .least) count m → 2 ^ v .channels ≤ m → false ≡ leb (g .least) (howMany (neighbour g i) (numbers n))
-  blocks-end s l = sym (ap (leb (g .least)) (sym crowd) ∙ sum-end s l)
+      pub blocks-more : more < v .«min_points» → Sum turnedOf (2 ^ v .channels) (g .least) more (m + 1)
+      blocks-more k =
+          let e : count + turnedOf m ≡ more = omega (arith, q, at-least v n ps) in
+          subst (λ (z : ℕ). Sum turnedOf (2 ^ v .channels) (g .least) z (m + 1)) e (sum-more s l refl (omega (arith, e, at-least v n ps)))
+
+    pub blocks-end : {m count : ℕ} → Sum turnedOf (2 ^ v .channels) (g .least) count m → 2 ^ v .channels ≤ m → false ≡ leb (g .least) (howMany (neighbour g i) (numbers n))
+    blocks-end s l = sym (ap (leb (g .least)) (sym crowd) ∙ sum-end s l)
 
 -- fewer frames than are needed
 pub too-few : (g : Geometry) (i n : ℕ) → n < g .least → false ≡ leb (g .least) (howMany (neighbour g i) (numbers n))
@@ -306,26 +315,30 @@ module _ {ps : List ℤ} {v : ValidParams} {n i : ℕ} {w : List ℕ}
     pub crowd-edges : Ready ps v n × (i < n) × (0 < s)
     crowd-edges = (p .0 .0, p .0 .2, omega arith)
 
-    module _ {a : List ℕ} (q : (a ≡ over (replicate 4 0) 0 (edgesOf s (v .t) (frameAt (v .t) v n ps i))) × Below 65536 a) {m : ℕ} (l : m < 2 ^ v .channels) where
-      pub crowd-block : Below 65536 a × (s ≤ 2 ^ 20) × (m < 16)
-      crowd-block = (q .1, omega (arith, crowd-width), omega (arith, crowd-most))
+    module _ (a : List ℕ) (l : Below 65536 a) where
+      pub crowd-own : Ready ps v n × (i < n) × Below 65536 a × (s ≤ 2 ^ 20)
+      crowd-own = (p .0 .0, p .0 .2, l, omega (arith, crowd-width))
 
-      module _ {low : List ℕ} (f : (low ≡ shifted s a m) × Below hashes low) where
-        around : take (v .channels) low ≡ blockAt (v .t) own-frame m
-        around = low-block (v .t) own-frame frame-long m e (q .0) (f .0)
+      pub crowd-block : {c x : ℕ} → c ≡ 2 ^ v .channels → x < c → Below 65536 a × (s ≤ 2 ^ 20) × (x < 16)
+      crowd-block k h = (l, omega (arith, crowd-width), omega (arith, k, crowd-most))
 
-        multiples : (k : ℕ) → k < v .channels → getD low k 0 % width (v .t) ≡ 0
-        multiples = low-multiple (v .t) own-frame frame-long m e (q .0) (f .0)
+    -- block x
+    module _ (x : ℕ) {a low : List ℕ} (q : a ≡ over (replicate 4 0) 0 (edgesOf s (v .t) (frameAt (v .t) v n ps i))) (f : (low ≡ shifted s a x) × Below hashes low) where
+      multiples : (y : ℕ) → y < v .channels → getD low y 0 % width (v .t) ≡ 0
+      multiples = low-multiple (v .t) own-frame frame-long x e q (f .0)
 
-        module _ {own count : ℕ} (o : own ≡ first (geometryAt v n ps) i) (S : Sum (inBlockOf (p .0 .0) (p .0 .1) (p .0 .2)) (2 ^ v .channels) (geometryAt v n ps .least) count m) where
-          pub crowd-count : (Ready ps v n × Arranged (geometryAt v n ps) (length (cells (geometryAt v n ps))) w × (i < n) × (count < v .«min_points»))
-              × (((own ≡ first (geometryAt v n ps) i) × ((k : ℕ) → k < v .channels → getD low k 0 % width (v .t) ≡ 0)) × (Hashed (v .t) v n ps every w × (15 * n ≤ length w) × Below hashes low))
-          crowd-count = ((p .0 .0, p .1 .0, p .0 .2, omega (arith, S .low, at-least v n ps)), ((o, multiples), (p .1 .1, p .1 .2, f .1)))
+      pub crowd-count : {own count : ℕ} → own ≡ first (geometryAt v n ps) i → count < geometryAt v n ps .least
+          → (Ready ps v n × Arranged (geometryAt v n ps) (length (cells (geometryAt v n ps))) w × (i < n) × (count < v .«min_points»))
+          × (((own ≡ first (geometryAt v n ps) i) × ((y : ℕ) → y < v .channels → getD low y 0 % width (v .t) ≡ 0)) × (Hashed (v .t) v n ps every w × (15 * n ≤ length w) × Below hashes low))
+      crowd-count o l = ((p .0 .0, p .1 .0, p .0 .2, omega (arith, l, at-least v n ps)), ((o, multiples), (p .1 .1, p .1 .2, f .1)))
 
-        pub crowd-more : (count : ℕ) {more : ℕ} → more ≡ min (v .«min_points») (count + neighboursIn v n ps (take (v .channels) low) i) → more ≡ min (geometryAt v n ps .least) (count + inBlockOf (p .0 .0) (p .0 .1) (p .0 .2) m)
-        unfolding neighboursIn inBlock
-        crowd-more count r =
-            let P : List ℕ → ℕ → Bool = λ z. neighbourIn v n ps z i in
-            r
-            ∙ ap₂ (λ (a : ℕ) (z : List ℕ). min a (count + howMany (P z) (numbers n))) (sym (at-least v n ps)) around
-            ∙ ap (λ (z : ℕ). min (geometryAt v n ps .least) (count + z)) (sym (perm-length (down-perm (P (blockAt (v .t) own-frame m)) n)))
+      -- it is the block j after block b
+      pub crowd-more : (b j : ℕ) {c : ℕ} → c ≡ 2 ^ v .channels → x ≡ (b + j) % c → (count : ℕ) {more : ℕ} → more ≡ min (v .«min_points») (count + neighboursIn v n ps (take (v .channels) low) i)
+          → more ≡ min (geometryAt v n ps .least) (count + inBlockOf (p .0 .0) (p .0 .1) (p .0 .2) ((b + j) % 2 ^ v .channels))
+      unfolding neighboursIn inBlock
+      crowd-more b j k t count r =
+          let P : List ℕ → ℕ → Bool = λ z. neighbourIn v n ps z i in
+          let o : x ≡ (b + j) % 2 ^ v .channels = t ∙ ap (λ (z : ℕ). (b + j) % z) k in
+          r
+          ∙ ap₂ (λ (y : ℕ) (z : List ℕ). min y (count + howMany (P z) (numbers n))) (sym (at-least v n ps)) (low-block (v .t) own-frame frame-long x e q (f .0) ∙ ap (blockAt (v .t) own-frame) o)
+          ∙ ap (λ (z : ℕ). min (geometryAt v n ps .least) (count + z)) (sym (perm-length (down-perm (P (blockAt (v .t) own-frame ((b + j) % 2 ^ v .channels))) n)))

@@ -22,7 +22,7 @@ use Rattle.lists.specs.OrderLaws.{numbers-ascending}
 use Rattle.hyperparams.specs.declared.ValidParams.{ValidParams}
 use Rattle.counting_tree.specs.Frames.{Frame, apart, squared}
 use Rattle.counting_tree.specs.FramesIn.{frame-length}
-use Rattle.cells_grid.specs.Blocks.{raise, width, edge, keyOf, shifted, blockAt, sameNats, frameAt, inBlock, inBlocks}
+use Rattle.cells_grid.specs.Blocks.{raise, width, edge, keyOf, shifted, blockAt, ownBlock, sameNats, frameAt, inBlock, inBlocks}
 
 -- ---- raised counts
 -- raising makes no two counts farther apart
@@ -185,6 +185,16 @@ pub shifted-take : (w d : ℕ) (es : List ℕ) (m : ℕ) → take d (shifted w e
 shifted-take w zero es m = refl
 shifted-take w (suc d) [] m = refl
 shifted-take w (suc d) (e ∷ es) m = ap (λ (l : List ℕ). (e + w * (m % 2)) ∷ l) (shifted-take w d es (m / 2))
+
+-- a frame's own block is one of those around it
+pub own-below : (w : ℕ) (es : List ℕ) (f : Frame) → ownBlock w es f < 2 ^ length f
+own-below w [] f = pow-pos (length f)
+own-below w (e ∷ es) [] = omega arith
+own-below w (e ∷ es) (c ∷ f) = go (leb (e + w) (raise c)) (own-below w es f)
+  where
+    go : (t : Bool) → ownBlock w es f < 2 ^ length f → cond t 1 0 + 2 * ownBlock w es f < 2 ^ suc (length f)
+    go true h = omega (arith, pow-suc 2 (length f))
+    go false h = omega (arith, pow-suc 2 (length f))
 
 -- a block begins at multiples of the width
 pub block-multiple : (reach : ℕ) (f : Frame) (m q : ℕ) → getD (blockAt reach f m) q 0 % width reach ≡ 0

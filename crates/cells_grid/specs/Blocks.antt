@@ -6,7 +6,7 @@ use mathlib.Core.Bool.{Bool, true, false, _&&_, cond}
 use mathlib.Core.List.{List, [], _∷_, map}
 use Prim.Native.Nat.{ℕ, suc, _+_, _-_, _*_, _/_, _%_, _^_}
 use lib.IntN.{ℤ, pos, negsuc}
-use lib.Dec.{eqb}
+use lib.Dec.{leb, eqb}
 use Rattle.lists.specs.Lists.{concat}
 use Rattle.lists.specs.Words.{over, part, column}
 use Rattle.lists.specs.Buckets.{lastWith, keepDown, mix, hashOf, bucket, inBucket}
@@ -43,6 +43,16 @@ shifted w (e ∷ es) m = (e + w * (m % 2)) ∷ shifted w es (m / 2)
 -- block m of those around a frame
 abbrev pub blockAt : ℕ → Frame → ℕ → List ℕ
 blockAt reach f m = shifted (width reach) (edgesOf (width reach) reach f) m
+
+-- 1 if a count lies in the second of two blocks of width w, the first of which begins at e, else 0
+abbrev pub second : ℕ → ℕ → ℤ → ℕ
+second w e c = cond (leb (e + w) (raise c)) 1 0
+
+-- of the blocks that begin at es or w later, the number of the one that holds a frame
+abbrev pub ownBlock : ℕ → List ℕ → Frame → ℕ
+ownBlock w [] f = 0
+ownBlock w (e ∷ es) [] = 0
+ownBlock w (e ∷ es) (c ∷ f) = second w e c + 2 * ownBlock w es f
 
 -- whether two blocks are the same
 abbrev pub sameNats : List ℕ → List ℕ → Bool

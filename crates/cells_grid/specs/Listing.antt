@@ -1,10 +1,12 @@
 -- The core cells that a cell lists, in the order in which a search by blocks finds them, and what the words hold for that search. Definitions only.
 use mathlib.Core.Path.{_≡_}
-use mathlib.Core.Bool.{Bool, _&&_}
+use mathlib.Core.Bool.{Bool, not, _&&_}
 use mathlib.Core.List.{List, map}
-use Prim.Native.Nat.{ℕ, _*_, _^_}
+use Prim.Native.Nat.{ℕ, _+_, _*_, _^_}
 use lib.IntN.{ℤ}
-use Rattle.lists.specs.Lists.{concat}
+use lib.Dec.{eqb}
+use lib.ListN.{getD}
+use Rattle.lists.specs.Lists.{keep, concat}
 use Rattle.lists.specs.Words.{part, column}
 use Rattle.lists.specs.Buckets.{keepDown}
 use Rattle.hyperparams.specs.declared.ValidParams.{ValidParams}
@@ -21,6 +23,10 @@ reachOf v = 2 * v .t
 -- frame j is the first frame of a core cell
 abbrev pub firstCore : Geometry → ℕ → Bool
 firstCore g j = isCell g j && coreCell g j
+
+-- of the cells ds those whose word from `marks` on is not `mark`
+unfoldable pub unmarked : List ℕ → (marks mark : ℕ) → List ℕ → List ℕ
+unmarked w marks mark ds = keep (λ d. not (eqb (getD w (marks + d) 0) mark)) ds
 
 module _ (v : ValidParams) (n : ℕ) (ps : List ℤ) where
   -- the core cells, by number, whose first frames lie in the block es and near frame i, in the order in which they are found

@@ -1,34 +1,38 @@
--- Laws of the list of a cell: it has the core cells that the cell lists, each once, in some order; and what writing and clearing words does to the hashed cells.
+-- Laws of the list of a cell: it has the core cells that the cell lists, each once, in some order; of those on it that are not marked; and what writing and clearing words does to the hashed cells.
 use mathlib.Core.Path.{_≡_, refl, sym, ap, subst, _∙_}
 use mathlib.Core.Logic.{_⊎_}
-use mathlib.Core.Bool.{Bool, _&&_, and-assoc}
+use mathlib.Core.Bool.{Bool, true, false, not, cond, _&&_, and-assoc, and-true, and-false}
 use mathlib.Core.List.{List, [], _∷_, _++_, map, map-append, map-map, map-id, List·Permᴰ, Permᴰ·map}
 use Prim.Native.Nat.{ℕ, _+_, _*_, _^_, _<_, _≤_}
-use native.Mathlib.Nat.{add-mul, mul-add}
+use native.Mathlib.Nat.{le-trans, add-mul, mul-add}
 use native.Mathlib.Omega.{arith}
 use lib.IntN.{ℤ}
-use lib.Dec.{T, leb→le}
-use lib.ListN.{length, replicate, length-replicate}
-use Rattle.lists.specs.Lists.{numbers, keep, concat, In}
+use lib.Dec.{T, eqb, leb→le}
+use lib.ListN.{length, getD, replicate, length-replicate}
+use borrow.Author.Tests.{eq-eqb, ne-eqb}
+use Rattle.lists.specs.Lists.{numbers, keep, concat, In, Below}
 use Rattle.lists.specs.Words.{over, Clear}
-use Rattle.lists.specs.ListLaws.{and-left, and-right, and-both, in-keep, keep-in, keep-same, map-same, in-numbers, numbers-in}
-use Rattle.lists.specs.CountLaws.{keep-keep, keep-map}
+use Rattle.lists.specs.ListLaws.{true-T, and-left, and-right, and-both, in-keep, keep-in, keep-same, in-map, map-same, in-numbers, numbers-in}
+use Rattle.lists.specs.CountLaws.{keep-append, keep-le, keep-keep, keep-all, keep-map}
 use Rattle.lists.specs.OrderLaws.{kept-le}
+use Rattle.lists.specs.Buckets.{keepDown}
+use Rattle.lists.specs.BucketLaws.{down-perm}
 use Rattle.lists.specs.PermLaws.{perm-same, perm-length}
 use Rattle.lists.specs.WordLaws.{over-again}
-use Rattle.lists.specs.PartLaws.{clear-over, clear-within}
+use Rattle.lists.specs.PartLaws.{get-under, clear-over, clear-within}
 use Rattle.hyperparams.specs.declared.ValidParams.{ValidParams}
 use Rattle.counting_tree.specs.Frames.{squared}
 use Rattle.counting_tree.specs.Geometry.{Geometry, geometryOf, near}
 use Rattle.counting_tree.specs.Ready.{geometryAt, Ready, at-frames}
 use Rattle.cells_grid.specs.Cells.{cells, isCell, listed, coreCell, cellNumber}
 use Rattle.cells_grid.specs.Arrangement.{cellAt}
-use Rattle.cells_grid.specs.ArrangementLaws.{cells-le, cell-at-below, number-at, listed-at, cells-by-number}
+use Rattle.cells_grid.specs.Ready.{ready-lawful}
+use Rattle.cells_grid.specs.ArrangementLaws.{cells-le, cell-at-below, number-at, listed-at, cells-by-number, number-below}
 use Rattle.cells_grid.specs.Blocks as Blocks
-use Rattle.cells_grid.specs.Blocks.{frameAt, inBlock, inBlocks}
+use Rattle.cells_grid.specs.Blocks.{keyOf, sameNats, frameAt, inBlock, inBlocks}
 use Rattle.cells_grid.specs.BlockLaws.{by-blocks}
 use Rattle.cells_grid.specs.HashLaws as HashLaws
-use Rattle.cells_grid.specs.Listing.{reachOf, firstCore, listIn, listOf, heads, nexts, Hashed}
+use Rattle.cells_grid.specs.Listing.{reachOf, firstCore, unmarked, listIn, listOf, heads, nexts, Hashed}
 
 -- words laid over words that are 0, and made 0 again
 laid-cleared : (w : List ℕ) (a : ℕ) (ws : List ℕ) (m : ℕ) → m ≡ length ws → a + m ≤ length w → Clear w a m → over (over w a ws) a (replicate m 0) ≡ w
@@ -38,6 +42,47 @@ laid-cleared w a ws m e h z = over-again w a ws (replicate m 0) (omega arith) (l
 map-concat : {A B : Type 0} (f : A → B) (h : ℕ → List A) (xs : List ℕ) → map f (concat (map h xs)) ≡ concat (map (λ x. map f (h x)) xs)
 map-concat f h [] = refl
 map-concat f h (x ∷ xs) = map-append f (h x) (concat (map h xs)) ∙ ap (λ (l : List _). map f (h x) ++ l) (map-concat f h xs)
+
+-- ---- the unmarked ones of some cells
+module _ (w : List ℕ) (a m : ℕ) where
+  abbrev free : ℕ → Bool
+  free d = not (eqb (getD w (a + d) 0) m)
+
+  free-of : (d : ℕ) → (getD w (a + d) 0 ≡ m → ⊥) → T (free d)
+  free-of d h = true-T (ap not (ne-eqb (getD w (a + d) 0) m h))
+
+  pub unmarked-in : (d : ℕ) (ds : List ℕ) → In d ds → (getD w (a + d) 0 ≡ m → ⊥) → In d (unmarked w a m ds)
+  unfolding unmarked
+  unmarked-in d ds i h = keep-in free d ds i (free-of d h)
+
+  pub in-unmarked : (d : ℕ) (ds : List ℕ) → In d (unmarked w a m ds) → In d ds × (getD w (a + d) 0 ≡ m → ⊥)
+  unfolding unmarked
+  in-unmarked d ds i =
+      let z = in-keep free d ds i in
+      (z .0, λ e. subst T (ap not (eq-eqb (getD w (a + d) 0) m e)) (z .1))
+
+  pub unmarked-all : (ds : List ℕ) → ((d : ℕ) → In d ds → getD w (a + d) 0 ≡ m → ⊥) → unmarked w a m ds ≡ ds
+  unfolding unmarked
+  unmarked-all ds h = keep-all free ds (λ d i. free-of d (h d i))
+
+  pub unmarked-le : (ds : List ℕ) → length (unmarked w a m ds) ≤ length ds
+  unfolding unmarked
+  unmarked-le ds = keep-le free ds
+
+  pub unmarked-append : (xs ys : List ℕ) → unmarked w a m (xs ++ ys) ≡ unmarked w a m xs ++ unmarked w a m ys
+  unfolding unmarked
+  unmarked-append xs ys = keep-append free xs ys
+
+  -- one cell more, if it passes
+  pub unmarked-more : (b : Bool) (d : ℕ) (ds : List ℕ) → unmarked w a m (cond b (d ∷ ds) ds) ≡ cond (not (eqb (getD w (a + d) 0) m) && b) (d ∷ unmarked w a m ds) (unmarked w a m ds)
+  unfolding unmarked
+  unmarked-more true d ds = ap (λ (t : Bool). cond t (d ∷ keep free ds) (keep free ds)) (sym (and-true (free d)))
+  unmarked-more false d ds = ap (λ (t : Bool). cond t (d ∷ keep free ds) (keep free ds)) (sym (and-false (free d)))
+
+  -- words laid after the marks change nothing
+  pub unmarked-over : (n b : ℕ) (ws ds : List ℕ) → Below n ds → a + n ≤ b → b ≤ length w → unmarked (over w b ws) a m ds ≡ unmarked w a m ds
+  unfolding unmarked
+  unmarked-over n b ws ds l h k = keep-same (λ d. not (eqb (getD (over w b ws) (a + d) 0) m)) free ds (λ d i. ap (λ (x : ℕ). not (eqb x m)) (get-under w b (a + d) ws (omega (arith, l d i)) k))
 
 -- "at most 4 × t × t" is at most the reach squared
 pub near-reach : (v : ValidParams) (n : ℕ) (ps : List ℤ) (i j : ℕ) → T (geometryAt v n ps .near i j) → squared (frameAt (reachOf v) v n ps i) (frameAt (reachOf v) v n ps j) ≤ reachOf v * reachOf v
@@ -58,6 +103,22 @@ module _ {ps : List ℤ} {v : ValidParams} {n : ℕ} (r : Ready ps v n) where
 
   few : k ≤ n
   few = omega (arith, cells-le g, at-frames v n ps)
+
+  -- some cells, written over words that are 0, and cleared
+  few-cleared : (w ds : List ℕ) → length ds ≤ length (cells (geometryAt v n ps)) → 16 * n ≤ length w → Clear w (15 * n) n → over (over w (15 * n) ds) (15 * n) (replicate (length ds) 0) ≡ w
+  few-cleared w ds s l z =
+      let b : length ds ≤ n = omega (arith, few) in
+      laid-cleared w (15 * n) ds (length ds) refl (omega arith) (clear-within w (15 * n) n (15 * n) (length ds) z (omega arith) (omega arith))
+
+  -- the cells in a block are below n
+  pub in-below : (i : ℕ) (es : List ℕ) → Below n (listIn v n ps i es)
+  unfolding listIn
+  in-below i es d l =
+      let f : ℕ → Bool = λ j. sameNats (keyOf (Blocks.width (reachOf v)) (frameAt (reachOf v) v n ps j)) es && (firstCore g j && g .near i j) in
+      let z = in-map (cellNumber g) d (keepDown f n) l in
+      let j = z .0 in
+      let b : j < n = in-numbers n j (in-keep f j (numbers n) (perm-same (down-perm f n) j .0 (z .1)) .0) in
+      omega (arith, z .2, number-below g (ready-lawful r) j (omega (arith, at-frames v n ps)), few)
 
   -- ---- the list of a cell
   module _ (c : ℕ) (h : c < length (cells (geometryAt v n ps))) where
@@ -118,10 +179,20 @@ module _ {ps : List ℤ} {v : ValidParams} {n : ℕ} (r : Ready ps v n) where
 
     -- a list that was written over words that are 0, and cleared
     pub list-cleared : (w : List ℕ) → 16 * n ≤ length w → Clear w (15 * n) n → over (over w (15 * n) (listOf v n ps c)) (15 * n) (replicate (length (listOf v n ps c)) 0) ≡ w
-    list-cleared w l z =
-        let m : ℕ = length (listOf v n ps c) in
-        let b : m ≤ n = omega (arith, list-length, few) in
-        laid-cleared w (15 * n) (listOf v n ps c) m refl (omega arith) (clear-within w (15 * n) n (15 * n) m z (omega arith) (omega arith))
+    list-cleared w l z = few-cleared w (listOf v n ps c) list-length l z
+
+    -- ---- those on it that are not marked in the words u
+    module _ (u : List ℕ) (a m : ℕ) where
+      pub unmarked-length : length (unmarked u a m (listOf v n ps c)) ≤ length (cells (geometryAt v n ps))
+      unmarked-length = le-trans (unmarked-le u a m (listOf v n ps c)) list-length
+
+      pub unmarked-cleared : (w : List ℕ) → 16 * n ≤ length w → Clear w (15 * n) n
+          → over (over w (15 * n) (unmarked u a m (listOf v n ps c))) (15 * n) (replicate (length (unmarked u a m (listOf v n ps c))) 0) ≡ w
+      unmarked-cleared w l z = few-cleared w (unmarked u a m (listOf v n ps c)) unmarked-length l z
+
+      -- words laid where lists are written change nothing
+      pub unmarked-under : (b : ℕ) (ws : List ℕ) → a + n ≤ b → b ≤ length u → unmarked (over u b ws) a m (listOf v n ps c) ≡ unmarked u a m (listOf v n ps c)
+      unmarked-under b ws = unmarked-over u a m n b ws (listOf v n ps c) (λ d i. omega (arith, list-sound d i .0, few))
 
   -- ---- the hashed cells
   abbrev p : ℕ → Bool

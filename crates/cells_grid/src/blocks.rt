@@ -13,7 +13,7 @@ ghost use Rattle.lists.specs.Words.{over};
 ghost use Rattle.lists.specs.Buckets.{hashes, hashOf, bucket};
 ghost use Rattle.counting_tree.specs.Ready.{Ready};
 ghost use Rattle.cells_grid.specs.Blocks as Definitions;
-ghost use Rattle.cells_grid.specs.Blocks.{raise, edgesOf, keyOf, shifted, sameNats};
+ghost use Rattle.cells_grid.specs.Blocks.{raise, edgesOf, keyOf, shifted, ownBlock, sameNats};
 ghost use Rattle.counting_tree.specs.Frames.{framesIn};
 ghost use Rattle.counting_tree.specs.Geometry.{frame};
 
@@ -77,6 +77,47 @@ pub fn block(first: [u64; 4], width: u64, m: usize) -> [u64; 4]
         first[2] + width * (m / 4 % 2) as u64,
         first[3] + width * (m / 8 % 2) as u64,
     ]
+}
+
+// Whether a raised count lies `width` or more above where the first of two blocks begins: then it lies in the second.
+fn second(c: i16, width: u64, low: u64) -> usize
+    requires { ⌜ (low < 65536) × (width ≤ 2 ^ 20) ⌝ }
+    ensures { λ r. ⌜ r ≡ Definitions.second width low c ⌝ }
+    ensures { λ r. ⌜ r < 2 ⌝ }
+{
+    if low + width <= counting_tree::points::raised(c) {
+        return 1;
+    }
+    0
+}
+
+// Which of the blocks around frame i it lies in itself: bit q of the answer for channel q. (Where a search begins is free: it only has to be one of the blocks.)
+pub fn own_block(
+    points: &[i16],
+    v: ValidParams,
+    n: usize,
+    width: u64,
+    first: [u64; 4],
+    i: usize,
+) -> usize
+    requires { ⌜ Ready (now points) v n × (i < n) × Below 65536 first × (width ≤ 2 ^ 20) ⌝ }
+    ensures { λ r. ⌜ r ≡ ownBlock width first (frame v (framesIn n (v .channels) (now (points .entry))) i) ⌝ }
+    ensures { λ r. ⌜ r < 2 ^ v .channels ⌝ }
+{
+    let start = i * v.channels;
+    let one = second(points[start], width, first[0]);
+    if v.channels == 1 {
+        return one;
+    }
+    let two = one + 2 * second(points[start + 1], width, first[1]);
+    if v.channels == 2 {
+        return two;
+    }
+    let three = two + 4 * second(points[start + 2], width, first[2]);
+    if v.channels == 3 {
+        return three;
+    }
+    three + 8 * second(points[start + 3], width, first[3])
 }
 
 // How many blocks there are around a frame.

@@ -7,6 +7,7 @@ use super::blocks::edges_at;
 use super::blocks::hash_frame;
 use super::blocks::hash_of;
 use super::blocks::in_block;
+use super::blocks::own_block;
 use hyperparams::ValidParams;
 use lists::Word;
 ghost use mathlib.Core.Path.{_≡_};
@@ -107,7 +108,21 @@ fn count_block(
     sum
 }
 
+// The block m after block `start` of those around a frame: after the last comes block 0.
+fn turned(start: usize, m: usize, blocks: usize) -> usize
+    requires { ⌜ (start < blocks) × (m < blocks) × (blocks ≤ 16) ⌝ }
+    ensures { λ r. ⌜ r ≡ (start + m) % blocks ⌝ }
+    ensures { λ r. ⌜ r < blocks ⌝ }
+{
+    let b = start + m;
+    if b < blocks {
+        return b;
+    }
+    b - blocks
+}
+
 // Whether the cells on the list of frame i's cell hold `min_points` frames within the tolerance of frame i.
+// (Most of those lie in the block in which frame i lies itself: the count begins there.)
 pub fn crowded(points: &[i16], v: ValidParams, n: usize, work: &[Word], i: usize) -> bool
     requires { ⌜ Ready (now points) v n × Counts (now points) × (i < n) ⌝ }
     requires { ⌜ Arranged (geometryAt v n (now points)) (length (cells (geometryAt v n (now points)))) (now work) × Hashed (v .t) v n (now points) every (now work) × (15 * n ≤ length (now work)) ⌝ }
@@ -120,11 +135,12 @@ pub fn crowded(points: &[i16], v: ValidParams, n: usize, work: &[Word], i: usize
     let own = lists::word(work, n + c);
     let w = width(v);
     let first = edges_at(points, v, n, w, v.t, i);
+    let start = own_block(points, v, n, w, first, i);
     let blocks = block_count(v.channels);
     let mut count = 0;
     let mut m = 0;
     while m < blocks {
-        let low = block(first, w, m);
+        let low = block(first, w, turned(start, m, blocks));
         let more = count_block(points, v, n, work, low, own, i, count);
         if more >= v.min_points {
             return true;

@@ -3,15 +3,15 @@ use mathlib.Core.Path.{_≡_, refl, sym, ap, ap₂, _∙_}
 use mathlib.Core.Logic.{inl, inr}
 use mathlib.Core.Bool.{Bool, true, false, _&&_, cond, and-true, and-false}
 use mathlib.Core.List.{List, [], _∷_, _++_, append-nil}
-use Prim.Native.Nat.{ℕ, zero, suc, _+_, _-_, _≤_, _<_}
-use native.Mathlib.Nat.{le-of-eq, le-of-suc-le-suc, not-suc-le-zero, le-of-lt, lt-trans, lt-irrefl, add-zero, zero-add}
+use Prim.Native.Nat.{ℕ, zero, suc, _+_, _-_, _%_, _≤_, _<_}
+use native.Mathlib.Nat.{le-of-eq, le-of-suc-le-suc, not-suc-le-zero, le-of-lt, lt-trans, lt-irrefl, add-zero, zero-add, mod-eq-of-lt, add-mod-right}
 use native.Mathlib.Numerals.{add-one}
 use native.Mathlib.Omega.{arith}
 use lib.Dec.{T, eqb, ltb, ltb→lt, lt→ltb, eqb→eq, eqb-refl}
 use lib.ListN.{length, getD, length-append}
-use Rattle.lists.specs.Lists.{from, numbers, keep, lose, howMany, headOr, In, Below, Ascending}
+use Rattle.lists.specs.Lists.{from, numbers, keep, lose, howMany, total, headOr, In, Below, Ascending}
 use Rattle.lists.specs.ListLaws.{T-true, T-false, in-keep, in-lose, at-in, keep-same, in-from, in-numbers, length-from}
-use Rattle.lists.specs.CountLaws.{keep-append, keep-le, keep-none, keep-fewer}
+use Rattle.lists.specs.CountLaws.{keep-append, keep-le, keep-none, keep-fewer, total-append}
 
 -- ---- numbers after numbers
 from-add : (a m n : ℕ) → from a (m + n) ≡ from a m ++ from (a + m) n
@@ -57,10 +57,38 @@ module _ (f : ℕ → Bool) where
       ∙ rw (and-false (f (r + k))) (append-nil (keep f (numbers r)))
 
 -- ---- the numbers below i, then the others
-pub kept-split : (f : ℕ → Bool) (i n : ℕ) → i ≤ n → keep f (numbers n) ≡ keep f (numbers i) ++ keep f (from i (n - i))
-kept-split f i n h =
+numbers-split : (i n : ℕ) → i ≤ n → numbers n ≡ numbers i ++ from i (n - i)
+numbers-split i n h =
     let e : n ≡ i + (n - i) = omega arith in
-    ap (λ (m : ℕ). keep f (numbers m)) e ∙ ap (keep f) (from-add 0 i (n - i) ∙ ap (λ (a : ℕ). numbers i ++ from a (n - i)) (zero-add i)) ∙ keep-append f (numbers i) (from i (n - i))
+    ap numbers e ∙ from-add 0 i (n - i) ∙ ap (λ (a : ℕ). numbers i ++ from a (n - i)) (zero-add i)
+
+pub kept-split : (f : ℕ → Bool) (i n : ℕ) → i ≤ n → keep f (numbers n) ≡ keep f (numbers i) ++ keep f (from i (n - i))
+kept-split f i n h = ap (keep f) (numbers-split i n h) ∙ keep-append f (numbers i) (from i (n - i))
+
+total-split : (f : ℕ → ℕ) (i n : ℕ) → i ≤ n → total f (numbers n) ≡ total f (numbers i) + total f (from i (n - i))
+total-split f i n h = ap (total f) (numbers-split i n h) ∙ total-append f (numbers i) (from i (n - i))
+
+-- a sum over the numbers below n is the same from a on, and round
+pub total-round : (f : ℕ → ℕ) (a n : ℕ) → a < n → total (λ j. f ((a + j) % n)) (numbers n) ≡ total f (numbers n)
+total-round f a n h = omega (arith, total-split g (n - a) n (omega arith), total-split f a n (omega arith), high, low)
+  where
+    g : ℕ → ℕ
+    g j = f ((a + j) % n)
+
+    total-from : (b c k : ℕ) → ((j : ℕ) → j < k → g (b + j) ≡ f (c + j)) → total g (from b k) ≡ total f (from c k)
+    total-from b c zero e = refl
+    total-from b c (suc k) e = ap₂ _+_ (ap g (sym (add-zero b)) ∙ e 0 (omega arith) ∙ ap f (add-zero c)) (total-from (suc b) (suc c) k (λ j l. ap g (next b j) ∙ e (suc j) (omega arith) ∙ ap f (sym (next c j))))
+      where
+        next : (x j : ℕ) → suc x + j ≡ x + suc j
+        next x j = omega arith
+
+    high : total g (numbers (n - a)) ≡ total f (from a (n - a))
+    high = total-from 0 a (n - a) (λ j l. ap f (ap (λ (z : ℕ). (a + z) % n) (zero-add j) ∙ mod-eq-of-lt (omega arith)))
+
+    low : total g (from (n - a) (n - (n - a))) ≡ total f (numbers a)
+    low =
+        let q : n - (n - a) ≡ a = omega arith in
+        ap (λ (k : ℕ). total g (from (n - a) k)) q ∙ total-from (n - a) 0 a (λ j l. ap f (let e : a + (n - a + j) ≡ j + n = omega arith in ap (λ (z : ℕ). z % n) e ∙ add-mod-right j n ∙ mod-eq-of-lt (omega arith) ∙ sym (zero-add j)))
 
 -- a number that passes, below i: fewer pass below it
 pub many-less : (f : ℕ → Bool) (j i : ℕ) → j < i → T (f j) → howMany f (numbers j) < howMany f (numbers i)

@@ -5,7 +5,8 @@ use Prim.Native.Nat.{ℕ, _+_, _*_}
 use native.Mathlib.Omega.{arith}
 use lib.ListN.{getD}
 use Rattle.lists.specs.Words.{over}
-use Rattle.cells_grid.proofs.Edges.{key-bucket, bucket-in}
+use Rattle.lists.specs.BucketLaws.{bucket-below}
+use Rattle.cells_grid.proofs.Edges.{key-bucket}
 use borrow.Author.Needs.{needs}
 use Rattle.cells_grid.proofs.blocks.hash_frame.Statement.{statement}
 use Rattle.cells_grid.proofs.blocks.hash_frame.Tie as tie
@@ -33,8 +34,8 @@ mul-push-2 c = search needs
 push-requires : tie.Need-push-requires
 push-requires c κs =
     let p = c .before .before .before .before .before .pre in
-    let b = bucket-in (p .0) (c .before .before .before .before .before .args .j) (p .1) (c .before .before .before .before .before .args .width) (c .before .before .before .edges-at .ensures .0) (c .before .before .hash-of .ensures .0) (c .before .bucket .ensures) in
-    (omega (arith, p .3, b), omega (arith, p .3, p .1), omega (arith, p .1, p .0 .few))
+    let b = bucket-below (4 * c .before .before .before .before .before .args .n) (c .before .before .hash-of .result) (c .before .before .hash-of .ensures .1) (omega (arith, p .1)) in
+    (omega (arith, p .3, b, c .before .bucket .ensures), omega (arith, p .3, p .1), omega (arith, p .1, p .0 .few))
 
 same-length : tie.Need-same-length
 same-length c = search needs
