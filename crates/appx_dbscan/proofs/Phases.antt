@@ -24,7 +24,7 @@ use Rattle.cells_grid.specs.Arrangement.{coreBit, Arranged, Cored}
 use Rattle.cells_grid.specs.ArrangementLaws as ArrangementLaws
 use Rattle.cells_grid.specs.ArrangementLaws.{cells-le, cored, core-word, populated-arranged}
 use Rattle.cells_grid.specs.Places.{populated}
-use Rattle.core_cells.specs.Forest.{treeWord, forestTo, Grown}
+use Rattle.core_cells.specs.Forest.{paths, treeWord, forestTo, Grown}
 use Rattle.core_cells.specs.ForestLaws.{forest-length, nodes-fit, grown, grown-over}
 use Rattle.clustering.specs.Clusters.{clusters, place, touched, borderKind, labelBy, kindOf}
 use Rattle.clustering.specs.Uniting.{lowestAt}
@@ -70,10 +70,10 @@ module _ {ps : List ℤ} {v : ValidParams} {n : ℕ} (r : Ready ps v n) (w : Lis
   m = workWords n (v .s)
 
   -- the nodes of all trees stand in the needed words
-  nodes-room : 16 * n + length (forestTo g k) ≤ m
+  nodes-room : 16 * n + length (forestTo g paths k) ≤ m
   nodes-room =
       let l : g .frames * (g .levels + 1) ≡ n * (1 + v .s + 1) = ap₂ (λ (f l : ℕ). f * (l + 1)) e (at-levels v n ps) in
-      omega (arith, forest-length g k, nodes-fit g L k (le-refl k))
+      omega (arith, forest-length g paths k, nodes-fit g paths L k (le-refl k))
 
   abbrev cores : List ℕ
   cores = column (coreBit g) n
@@ -109,21 +109,21 @@ module _ {ps : List ℤ} {v : ValidParams} {n : ℕ} (r : Ready ps v n) (w : Lis
   unfolding treed
   treed-within =
       within-over (within-over (within-more cored-within m (omega arith))
-      (5 * n) (column (treeWord g) k) (omega (arith, few, length-numbers (treeWord g) k)) room)
-      (16 * n) (forestTo g k) nodes-room room
+      (5 * n) (column (treeWord g paths) k) (omega (arith, few, length-numbers (treeWord g paths) k)) room)
+      (16 * n) (forestTo g paths k) nodes-room room
 
   clear-after-build-trees : Clear w (10 * n) (6 * n) → Clear (treed g n w) (10 * n) (6 * n)
   unfolding treed
   clear-after-build-trees c =
-      let trees = column (treeWord g) k in
+      let trees = column (treeWord g paths) k in
       let cored = over (populated g w) (4 * n) cores in
-      let l = length-numbers (treeWord g) k in
-      clear-before (over cored (5 * n) trees) (10 * n) (6 * n) (16 * n) (forestTo g k) (omega (arith, few, cored-within .size, over-length cored (5 * n) trees (omega (arith, few, cored-within .size)))) (omega arith)
+      let l = length-numbers (treeWord g paths) k in
+      clear-before (over cored (5 * n) trees) (10 * n) (6 * n) (16 * n) (forestTo g paths k) (omega (arith, few, cored-within .size, over-length cored (5 * n) trees (omega (arith, few, cored-within .size)))) (omega arith)
       (clear-after cored (10 * n) (6 * n) (5 * n) trees (omega (arith, cored-within .size)) (omega (arith, few)) (clear-after-label-points c))
 
   after-build-trees : Grown g k (treed g n w)
   unfolding treed
-  after-build-trees = grown after-label-points e (omega (arith, cored-within .size))
+  after-build-trees = grown after-label-points e (omega (arith, cored-within .size)) paths
 
   -- ---- `label`
   abbrev lowest : List ℕ
@@ -188,10 +188,10 @@ module _ {ps : List ℤ} {v : ValidParams} {n : ℕ} (r : Ready ps v n) (w : Lis
       pub clear₂ : Clear w (10 * n) (6 * n) → Clear w₂ (10 * n) (3 * n)
       clear₂ c = rw same₂ (few-clear n (over (populated g w) (4 * n) cores) (clear-after-label-points c))
 
-      module _ {w₃ : List ℕ} (e₃ : w₃ ≡ over (over w₂ (5 * n) (column (treeWord g) k₁)) (16 * n) (forestTo g k₁)) where
+      module _ {w₃ : List ℕ} (e₃ : w₃ ≡ over (over w₂ (5 * n) (column (treeWord g paths) k₁)) (16 * n) (forestTo g paths k₁)) where
         same₃ : w₃ ≡ treed g n w
         unfolding treed
-        same₃ = e₃ ∙ ap₂ (λ (j : ℕ) (x : List ℕ). over (over x (5 * n) (column (treeWord g) j)) (16 * n) (forestTo g j)) p same₂
+        same₃ = e₃ ∙ ap₂ (λ (j : ℕ) (x : List ℕ). over (over x (5 * n) (column (treeWord g paths) j)) (16 * n) (forestTo g paths j)) p same₂
 
         pub grown₃ : Grown g k₁ w₃
         grown₃ = rw (p, same₃) after-build-trees

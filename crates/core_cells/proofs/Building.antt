@@ -1,4 +1,4 @@
--- The tree of one cell: its core frames are gathered, its tree is built from them, and they are cleared again.
+-- The tree of one cell: its core frames are gathered, its tree is built from them if they are more than a few, and they are cleared again.
 use mathlib.Core.Path.{_≡_, sym, ap, ap₂, subst, _∙_}
 use mathlib.Core.Bool.{true, false}
 use mathlib.Core.List.{List, [], _∷_}
@@ -24,8 +24,8 @@ use Rattle.cells_grid.specs.Places.{endIn}
 use Rattle.cells_grid.specs.ArrangementLaws.{start-next, start-le, words-count, cell-size, cell-end-le, cell-places}
 use Rattle.tree_structure.specs.Encode.{size, encode, encode-length}
 use Rattle.tree_structure.specs.Work.{maxLevels, maxNodes, CanBuild}
-use Rattle.core_cells.specs.Forest.{coreAmong, CanGather, treeFrames, hasTree, treeSize, treeWords, nodesTo, treeWord}
-use Rattle.core_cells.specs.ForestLaws.{cell-below, among-core, frames-below, frames-le, tree-frames, no-tree-word, no-tree-words, no-tree-size, no-tree-frames}
+use Rattle.core_cells.specs.Forest.{coreAmong, CanGather, treeFrames, isCore, treeSize, treeWords, nodesTo, treeWord}
+use Rattle.core_cells.specs.ForestLaws.{cell-below, among-core, frames-below, frames-le, core-frames, no-core-frames, no-core-word, small-word, small-words, small-size}
 use Rattle.core_cells.specs.ForestLaws.{tree-word, tree-words, tree-size, nodes-next, nodes-fit, nodes-most}
 
 pub ready-levels : {ps : List ℤ} {v : ValidParams} {n : ℕ} → Ready ps v n → geometryAt v n ps .levels ≤ maxLevels
@@ -58,9 +58,9 @@ module _ {g : Geometry} {n k : ℕ} {w : List ℕ} (R : Ripe g n k w) where
   cells-few = words-count g (R .lawful) (R .cored .cells) n (R .frames)
 
   -- all trees of d cells fit
-  pub nodes-room : (d : ℕ) → d ≤ k → 16 * n + 4 * nodesTo g d ≤ length w
-  nodes-room d h =
-      let l : nodesTo g d ≤ n * (g .levels + 1) = subst (λ (x : ℕ). nodesTo g d ≤ x * (g .levels + 1)) (R .frames) (nodes-fit g (R .lawful) d (omega (arith, R .cored .cells .count))) in
+  pub nodes-room : (few d : ℕ) → d ≤ k → 16 * n + 4 * nodesTo g few d ≤ length w
+  nodes-room few d h =
+      let l : nodesTo g few d ≤ n * (g .levels + 1) = subst (λ (x : ℕ). nodesTo g few d ≤ x * (g .levels + 1)) (R .frames) (nodes-fit g few (R .lawful) d (omega (arith, R .cored .cells .count))) in
       omega (arith, R .room)
 
   -- the places of cell c
@@ -79,17 +79,17 @@ module _ {g : Geometry} {n k : ℕ} {w : List ℕ} (R : Ripe g n k w) where
     }
 
 -- the m core frames of cell c are gathered, and its tree is to stand at `at`
-pub record Gathered (g : Geometry) (n k : ℕ) (w : List ℕ) (c at m : ℕ) (w₁ : List ℕ) : Type 0 where
+pub record Gathered (g : Geometry) (n k : ℕ) (w : List ℕ) (few c at m : ℕ) (w₁ : List ℕ) : Type 0 where
   pub ripe : Ripe g n k w
   pub inside : c < k
-  pub place : at ≡ 16 * n + 4 * nodesTo g c
+  pub place : at ≡ 16 * n + 4 * nodesTo g few c
   pub count : m ≡ length (treeFrames g c)
-  pub few : m ≤ n
+  pub most : m ≤ n
   pub work : w₁ ≡ over w (10 * n) (treeFrames g c)
 
-pub gathered : {g : Geometry} {n k : ℕ} {w : List ℕ} {c at m from to : ℕ} {w₁ : List ℕ} → Ripe g n k w → c < k → at ≡ 16 * n + 4 * nodesTo g c
-    → from ≡ getD w (2 * n + c) 0 → to ≡ endIn w n k c → m ≡ length (coreAmong w n from to) → w₁ ≡ over w (10 * n) (coreAmong w n from to) → Gathered g n k w c at m w₁
-gathered {g} {n} {k} {w} {c} R h p ef et em e₁ =
+pub gathered : {g : Geometry} {n k : ℕ} {w : List ℕ} {few c at m from to : ℕ} {w₁ : List ℕ} → Ripe g n k w → c < k → at ≡ 16 * n + 4 * nodesTo g few c
+    → from ≡ getD w (2 * n + c) 0 → to ≡ endIn w n k c → m ≡ length (coreAmong w n from to) → w₁ ≡ over w (10 * n) (coreAmong w n from to) → Gathered g n k w few c at m w₁
+gathered {g} {n} {k} {w} {few} {c} R h p ef et em e₁ =
     let e = among-core (R .lawful) (R .cored) (R .frames) c h ef et in
     let l : startAt g (c + 1) ≤ g .frames = start-le g (R .lawful) (c + 1) (omega (arith, R .cored .cells .count)) in
     record {
@@ -97,11 +97,11 @@ gathered {g} {n} {k} {w} {c} R h p ef et em e₁ =
       inside = h;
       place = p;
       count = em ∙ ap length e;
-      few = omega (arith, em, ap length e, frames-le g c, start-next g c (omega (arith, R .cored .cells .count)), R .frames);
+      most = omega (arith, em, ap length e, frames-le g c, start-next g c (omega (arith, R .cored .cells .count)), R .frames);
       work = e₁ ∙ ap (over w (10 * n)) e;
     }
 
-module _ {g : Geometry} {n k : ℕ} {w : List ℕ} {c at m : ℕ} {w₁ : List ℕ} (G : Gathered g n k w c at m w₁) where
+module _ {g : Geometry} {n k : ℕ} {w : List ℕ} {few c at m : ℕ} {w₁ : List ℕ} (G : Gathered g n k w few c at m w₁) where
   abbrev R : Ripe g n k w
   R = G .ripe
 
@@ -115,32 +115,50 @@ module _ {g : Geometry} {n k : ℕ} {w : List ℕ} {c at m : ℕ} {w₁ : List �
   slot = omega (arith, G .inside, cells-few R)
 
   pub gathered-length : length w₁ ≡ length w
-  gathered-length = ap length (G .work) ∙ over-length w (10 * n) M (omega (arith, G .count, G .few, fit))
+  gathered-length = ap length (G .work) ∙ over-length w (10 * n) M (omega (arith, G .count, G .most, fit))
 
-  -- no core frame
-  module _ (z : m ≡ 0) where
-    none : hasTree g c ≡ false
-    none = tree-frames g c ∙ ap nonzero (sym (G .count) ∙ z)
+  -- of the gathered frames nothing is left
+  pub emptied : over w₁ (10 * n) (replicate m 0) ≡ w
+  emptied =
+      let Z : List ℕ = replicate m 0 in
+      ap (λ (y : List ℕ). over y (10 * n) Z) (G .work)
+      ∙ over-again w (10 * n) M Z (omega (arith, fit)) (length-replicate {A = ℕ} m 0 ∙ G .count)
+      ∙ clear-over w (10 * n) m (omega (arith, fit, G .most)) (clear-within w (10 * n) (3 * n) (10 * n) m (R .blank) (le-refl (10 * n)) (omega (arith, G .most)))
 
-    pub none-next : at ≡ at + 4 * treeSize g c
-    none-next = omega (arith, no-tree-size g c none)
+  -- no tree
+  module _ (low : m ≤ few) where
+    short : length M ≤ few
+    short = omega (arith, G .count)
 
-    pub none-work : set w₁ (5 * n + c) 0 ≡ over (over w (5 * n + c) (treeWord g c ∷ [])) at (treeWords g c)
-    none-work =
-        ap (λ (y : List ℕ). set y (5 * n + c) 0) (G .work ∙ ap (over w (10 * n)) (no-tree-frames g c none) ∙ over-nil w (10 * n))
-        ∙ set-over w (5 * n + c) 0 (omega (arith, fit, slot))
-        ∙ ap (λ (t : ℕ). over w (5 * n + c) (t ∷ [])) (sym (no-tree-word g c none))
-        ∙ sym (ap (over (over w (5 * n + c) (treeWord g c ∷ [])) at) (no-tree-words g c none) ∙ over-nil (over w (5 * n + c) (treeWord g c ∷ [])) at)
+    pub small-next : at ≡ at + 4 * treeSize g few c
+    small-next = omega (arith, small-size g few c short)
 
-  module _ (some : m ≡ 0 → ⊥) where
-    has : hasTree g c ≡ true
-    has = tree-frames g c ∙ nonzero-true (length M) (λ z. some (G .count ∙ z))
+    marked : {t : ℕ} → t ≡ treeWord g few c → set w (5 * n + c) t ≡ over (over w (5 * n + c) (treeWord g few c ∷ [])) at (treeWords g few c)
+    marked {t} e =
+        set-over w (5 * n + c) t (omega (arith, fit, slot))
+        ∙ ap (λ (x : ℕ). over w (5 * n + c) (x ∷ [])) e
+        ∙ sym (ap (over (over w (5 * n + c) (treeWord g few c ∷ [])) at) (small-words g few c short) ∙ over-nil (over w (5 * n + c) (treeWord g few c ∷ [])) at)
+
+    pub none-work : m ≡ 0 → set w₁ (5 * n + c) 0 ≡ over (over w (5 * n + c) (treeWord g few c ∷ [])) at (treeWords g few c)
+    none-work z =
+        let e : isCore g c ≡ false = core-frames g c ∙ ap nonzero (sym (G .count) ∙ z) in
+        ap (λ (y : List ℕ). set y (5 * n + c) 0) (G .work ∙ ap (over w (10 * n)) (no-core-frames g c e) ∙ over-nil w (10 * n)) ∙ marked (sym (no-core-word g c e few))
+
+    pub small-work : (m ≡ 0 → ⊥) → {w₂ : List ℕ} → w₂ ≡ over w₁ (10 * n) (replicate m 0)
+        → set w₂ (5 * n + c) 1 ≡ over (over w (5 * n + c) (treeWord g few c ∷ [])) at (treeWords g few c)
+    small-work some e₂ =
+        let e : isCore g c ≡ true = core-frames g c ∙ nonzero-true (length M) (λ z. some (G .count ∙ z)) in
+        ap (λ (y : List ℕ). set y (5 * n + c) 1) (e₂ ∙ emptied) ∙ marked (sym (small-word g few c short e))
+
+  module _ (high : few < m) where
+    long : few < length M
+    long = omega (arith, G .count)
 
     abbrev E : List ℕ
     E = encode (g .same) (g .levels) 0 M
 
     fits : at + length E ≤ length w
-    fits = omega (arith, G .place, G .inside, encode-length (g .same) (g .levels) 0 M, tree-size g c has, nodes-next g c, nodes-room R (c + 1) (omega (arith, G .inside)))
+    fits = omega (arith, G .place, G .inside, encode-length (g .same) (g .levels) 0 M, tree-size g few c long, nodes-next g few c, nodes-room R few (c + 1) (omega (arith, G .inside)))
 
     above : 16 * n ≤ at
     above = omega (arith, G .place)
@@ -153,34 +171,34 @@ module _ {g : Geometry} {n k : ℕ} {w : List ℕ} {c at m : ℕ} {w₁ : List �
     clear : (b : ℕ) → 11 * n ≤ b → b + m ≤ 13 * n → Clear w₁ b m
     clear b p q =
         subst (λ (y : List ℕ). Clear y b m) (sym (G .work))
-        (clear-after w b m (10 * n) M (omega (arith, fit)) (omega (arith, G .count, G .few)) (clear-within w (10 * n) (3 * n) b m (R .blank) (omega arith) (omega arith)))
+        (clear-after w b m (10 * n) M (omega (arith, fit)) (omega (arith, G .count, G .most)) (clear-within w (10 * n) (3 * n) b m (R .blank) (omega arith) (omega arith)))
 
     pub can-build : CanBuild (g .same) n w₁ (10 * n) (10 * n + m) (11 * n) (12 * n) at (g .levels)
     can-build =
         let l : 10 * n + m - 10 * n ≡ m = omega arith in
         record {
-          some = omega (arith, some);
-          few = omega (arith, G .few, R .few);
-          before = omega (arith, G .few);
-          copied = omega (arith, G .few);
-          after = omega (arith, G .few, above);
+          some = omega arith;
+          few = omega (arith, G .most, R .few);
+          before = omega (arith, G .most);
+          copied = omega (arith, G .most);
+          after = omega (arith, G .most, above);
           below = subst (Below n) (sym laid) (subst (λ (x : ℕ). Below x M) (R .frames) (frames-below g c));
-          clear-copy = rw l (clear (11 * n) (omega arith) (omega (arith, G .few)));
-          clear = rw l (clear (12 * n) (omega arith) (omega (arith, G .few)));
+          clear-copy = rw l (clear (11 * n) (omega arith) (omega (arith, G .most)));
+          clear = rw l (clear (12 * n) (omega arith) (omega (arith, G .most)));
           room = rw laid (omega (arith, fits, gathered-length, encode-length (g .same) (g .levels) 0 M));
         }
 
     -- the word that says where the tree begins
-    word : 1 + (at - 16 * n) / 4 ≡ treeWord g c
-    word = omega (arith, G .place, tree-word g c has)
+    word : 2 + (at - 16 * n) / 4 ≡ treeWord g few c
+    word = omega (arith, G .place, tree-word g few c long)
 
-    pub word-low : 1 + (at - 16 * n) / 4 ≤ 1 + maxNodes
-    word-low = omega (arith, word, tree-word g c has, nodes-most g (R .lawful) (omega (arith, R .frames, R .few)) (R .low) c (omega (arith, G .inside, R .cored .cells .count)))
+    pub word-low : 2 + (at - 16 * n) / 4 ≤ 2 + maxNodes
+    word-low = omega (arith, word, tree-word g few c long, nodes-most g few (R .lawful) (omega (arith, R .frames, R .few)) (R .low) c (omega (arith, G .inside, R .cored .cells .count)))
 
     module _ {r : ℕ} {w₂ : List ℕ} (er : r ≡ at + 4 * size (g .same) (g .levels) 0 (part w₁ (10 * n) (10 * n + m - 10 * n)))
         (e₂ : w₂ ≡ over w₁ at (encode (g .same) (g .levels) 0 (part w₁ (10 * n) (10 * n + m - 10 * n)))) where
-      pub some-next : r ≡ at + 4 * treeSize g c
-      some-next = er ∙ ap (λ (x : List ℕ). at + 4 * size (g .same) (g .levels) 0 x) laid ∙ ap (λ (x : ℕ). at + 4 * x) (sym (tree-size g c has))
+      pub some-next : r ≡ at + 4 * treeSize g few c
+      some-next = er ∙ ap (λ (x : List ℕ). at + 4 * size (g .same) (g .levels) 0 x) laid ∙ ap (λ (x : ℕ). at + 4 * x) (sym (tree-size g few c long))
 
       built : w₂ ≡ over w₁ at E
       built = e₂ ∙ ap (λ (x : List ℕ). over w₁ at (encode (g .same) (g .levels) 0 x)) laid
@@ -189,23 +207,18 @@ module _ {g : Geometry} {n k : ℕ} {w : List ℕ} {c at m : ℕ} {w₁ : List �
       built-length = ap length built ∙ over-length w₁ at E (omega (arith, fits, gathered-length)) ∙ gathered-length
 
       module _ {w₃ : List ℕ} (e₃ : w₃ ≡ over w₂ (10 * n) (replicate m 0)) where
-        -- of the gathered frames nothing is left
         cleared : w₃ ≡ over w at E
         cleared =
             let Z : List ℕ = replicate m 0 in
-            let lz : length Z ≡ m = length-replicate {A = ℕ} m 0 in
             e₃ ∙ ap (λ (y : List ℕ). over y (10 * n) Z) built
-            ∙ sym (over-apart w₁ (10 * n) at Z E (omega (arith, lz, G .few, above)) (omega (arith, fits, gathered-length)))
-            ∙ ap (λ (y : List ℕ). over y at E)
-            (ap (λ (y : List ℕ). over y (10 * n) Z) (G .work)
-            ∙ over-again w (10 * n) M Z (omega (arith, fit)) (lz ∙ G .count)
-            ∙ clear-over w (10 * n) m (omega (arith, fit, G .few)) (clear-within w (10 * n) (3 * n) (10 * n) m (R .blank) (le-refl (10 * n)) (omega (arith, G .few))))
+            ∙ sym (over-apart w₁ (10 * n) at Z E (omega (arith, length-replicate {A = ℕ} m 0, G .most, above)) (omega (arith, fits, gathered-length)))
+            ∙ ap (λ (y : List ℕ). over y at E) emptied
 
         pub cleared-length : length w₃ ≡ length w
         cleared-length = ap length cleared ∙ over-length w at E fits
 
-        pub some-work : set w₃ (5 * n + c) (1 + (at - 16 * n) / 4) ≡ over (over w (5 * n + c) (treeWord g c ∷ [])) at (treeWords g c)
+        pub some-work : set w₃ (5 * n + c) (2 + (at - 16 * n) / 4) ≡ over (over w (5 * n + c) (treeWord g few c ∷ [])) at (treeWords g few c)
         some-work =
             ap₂ (λ (y : List ℕ) (t : ℕ). set y (5 * n + c) t) cleared word
-            ∙ set-under w at E (omega (arith, fits)) (5 * n + c) (treeWord g c) (omega (arith, above, slot))
-            ∙ ap₂ (λ (y u : List ℕ). over y at u) (set-over w (5 * n + c) (treeWord g c) (omega (arith, fit, slot))) (sym (tree-words g c has))
+            ∙ set-under w at E (omega (arith, fits)) (5 * n + c) (treeWord g few c) (omega (arith, above, slot))
+            ∙ ap₂ (λ (y u : List ℕ). over y at u) (set-over w (5 * n + c) (treeWord g few c) (omega (arith, fit, slot))) (sym (tree-words g few c long))

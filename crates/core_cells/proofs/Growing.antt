@@ -15,25 +15,25 @@ use Rattle.core_cells.specs.Forest.{treeSize, treeWords, nodesTo, forest
 use Rattle.core_cells.specs.ForestLaws.{forest-length, forest-next, tree-length, nodes-next}
 use Rattle.core_cells.proofs.Building.{Ripe, cells-few, nodes-room}
 
-pub record Growing (g : Geometry) (n k : ℕ) (w₀ v : List ℕ) (at c : ℕ) : Type 0 where
+pub record Growing (g : Geometry) (n k few : ℕ) (w₀ v : List ℕ) (at c : ℕ) : Type 0 where
   pub ripe : Ripe g n k w₀
   pub high : c ≤ k
-  pub place : at ≡ 16 * n + 4 * nodesTo g c
-  pub work : v ≡ over (over w₀ (5 * n) (column (treeWord g) c)) (16 * n) (forestTo g c)
+  pub place : at ≡ 16 * n + 4 * nodesTo g few c
+  pub work : v ≡ over (over w₀ (5 * n) (column (treeWord g few) c)) (16 * n) (forestTo g few c)
 
-pub growing-start : {g : Geometry} {n k : ℕ} {w₀ : List ℕ} → Ripe g n k w₀ → Growing g n k w₀ w₀ (16 * n) 0
+pub growing-start : {g : Geometry} {n k few : ℕ} {w₀ : List ℕ} → Ripe g n k w₀ → Growing g n k few w₀ w₀ (16 * n) 0
 unfolding nodesTo forestTo
-growing-start {g} {n} {k} {w₀} r = record { ripe = r; high = omega arith; place = omega arith; work = sym (over-nil (over w₀ (5 * n) []) (16 * n) ∙ over-nil w₀ (5 * n)) }
+growing-start {g} {n} {k} {few} {w₀} r = record { ripe = r; high = omega arith; place = omega arith; work = sym (over-nil (over w₀ (5 * n) []) (16 * n) ∙ over-nil w₀ (5 * n)) }
 
-module _ {g : Geometry} {n k : ℕ} {w₀ v : List ℕ} {at c : ℕ} (t : Growing g n k w₀ v at c) where
-  fits : (d : ℕ) → d ≤ k → (5 * n + length (column (treeWord g) d) ≤ 6 * n) × (16 * n + length (forestTo g d) ≤ length w₀)
-  fits d h = (omega (arith, length-numbers (treeWord g) d, cells-few (t .ripe)), omega (arith, forest-length g d, nodes-room (t .ripe) d h))
+module _ {g : Geometry} {n k few : ℕ} {w₀ v : List ℕ} {at c : ℕ} (t : Growing g n k few w₀ v at c) where
+  fits : (d : ℕ) → d ≤ k → (5 * n + length (column (treeWord g few) d) ≤ 6 * n) × (16 * n + length (forestTo g few d) ≤ length w₀)
+  fits d h = (omega (arith, length-numbers (treeWord g few) d, cells-few (t .ripe)), omega (arith, forest-length g few d, nodes-room (t .ripe) few d h))
 
   abbrev C : List ℕ
-  C = column (treeWord g) c
+  C = column (treeWord g few) c
 
   abbrev F : List ℕ
-  F = forestTo g c
+  F = forestTo g few c
 
   abbrev X : List ℕ
   X = over w₀ (5 * n) C
@@ -55,29 +55,29 @@ module _ {g : Geometry} {n k : ℕ} {w₀ v : List ℕ} {at c : ℕ} (t : Growin
   growing-blank = subst (λ (y : List ℕ). Clear y (10 * n) (3 * n)) (sym (t .work))
       (clear-before X (10 * n) (3 * n) (16 * n) F (omega (arith, lx, f)) (omega arith) (clear-after w₀ (10 * n) (3 * n) (5 * n) C (omega (arith, f)) (omega (arith, f)) (t .ripe .blank)))
 
-  pub growing-step : c < k → {r : ℕ} {v′ : List ℕ} → r ≡ at + 4 * treeSize g c
-      → v′ ≡ over (over v (5 * n + c) (treeWord g c ∷ [])) at (treeWords g c) → Growing g n k w₀ v′ r (c + 1)
+  pub growing-step : c < k → {r : ℕ} {v′ : List ℕ} → r ≡ at + 4 * treeSize g few c
+      → v′ ≡ over (over v (5 * n + c) (treeWord g few c ∷ [])) at (treeWords g few c) → Growing g n k few w₀ v′ r (c + 1)
   growing-step h {r} {v′} er e =
-      let T : List ℕ = treeWord g c ∷ [] in
-      let Y : List ℕ = over w₀ (5 * n) (column (treeWord g) (c + 1)) in
+      let T : List ℕ = treeWord g few c ∷ [] in
+      let Y : List ℕ = over w₀ (5 * n) (column (treeWord g few) (c + 1)) in
       let m = fits (c + 1) (omega arith) in
-      let lc : length C ≡ c = length-numbers (treeWord g) c in
+      let lc : length C ≡ c = length-numbers (treeWord g few) c in
       let ln : c < n = omega (arith, cells-few (t .ripe)) in
-      let ly : length Y ≡ length w₀ = over-length w₀ (5 * n) (column (treeWord g) (c + 1)) (omega (arith, m)) in
+      let ly : length Y ≡ length w₀ = over-length w₀ (5 * n) (column (treeWord g few) (c + 1)) (omega (arith, m)) in
       let slot : over v (5 * n + c) T ≡ over Y (16 * n) F =
       ap (λ (z : List ℕ). over z (5 * n + c) T) (t .work)
       ∙ sym (over-apart X (5 * n + c) (16 * n) T F (omega arith) (omega (arith, lx, f)))
-      ∙ ap (λ (z : List ℕ). over z (16 * n) F) (over-next w₀ (5 * n) (5 * n + c) C T (omega arith) (omega (arith, f)) ∙ ap (over w₀ (5 * n)) (sym (column-snoc (treeWord g) c))) in
+      ∙ ap (λ (z : List ℕ). over z (16 * n) F) (over-next w₀ (5 * n) (5 * n + c) C T (omega arith) (omega (arith, f)) ∙ ap (over w₀ (5 * n)) (sym (column-snoc (treeWord g few) c))) in
       record {
         ripe = t .ripe;
         high = omega arith;
-        place = omega (arith, t .place, nodes-next g c);
-        work = e ∙ ap (λ (z : List ℕ). over z at (treeWords g c)) slot
-            ∙ over-next Y (16 * n) at F (treeWords g c) (omega (arith, t .place, forest-length g c)) (omega (arith, t .place, tree-length g c, nodes-next g c, forest-length g (c + 1), m))
-            ∙ ap (over Y (16 * n)) (sym (forest-next g c));
+        place = omega (arith, t .place, nodes-next g few c);
+        work = e ∙ ap (λ (z : List ℕ). over z at (treeWords g few c)) slot
+            ∙ over-next Y (16 * n) at F (treeWords g few c) (omega (arith, t .place, forest-length g few c)) (omega (arith, t .place, tree-length g few c, nodes-next g few c, forest-length g few (c + 1), m))
+            ∙ ap (over Y (16 * n)) (sym (forest-next g few c));
       }
 
-  pub growing-end : k ≤ c → v ≡ over (over w₀ (5 * n) (column (treeWord g) k)) (16 * n) (forestTo g k)
+  pub growing-end : k ≤ c → v ≡ over (over w₀ (5 * n) (column (treeWord g few) k)) (16 * n) (forestTo g few k)
   growing-end h =
       let e : c ≡ k = omega (arith, t .high) in
-      t .work ∙ ap (λ (z : ℕ). over (over w₀ (5 * n) (column (treeWord g) z)) (16 * n) (forestTo g z)) e
+      t .work ∙ ap (λ (z : ℕ). over (over w₀ (5 * n) (column (treeWord g few) z)) (16 * n) (forestTo g few z)) e

@@ -4,3 +4,4 @@ pub mod Gathering
 pub mod Growing
 pub mod Looking
 pub mod Reaching
+pub mod Rooted

@@ -1,4 +1,4 @@
--- The loops over the places that are looked at: the frames read, and the least number found. And the far reach in 64 bits.
+-- The loops over the places that are looked at: the frames read, the least number found, and whether some frame passes a test. And the far reach in 64 bits.
 use mathlib.Core.Path.{_≡_, refl, sym, ap, subst, _∙_}
 use mathlib.Core.Logic.{inl, inr}
 use mathlib.Core.Bool.{Bool, true, false, cond}
@@ -11,7 +11,7 @@ use lib.IntN.{ℤ}
 use lib.Dec.{leb, ltb, eqb, lit<}
 use lib.Pow.{pow-mono, shl-exact}
 use lib.ListN.{getD}
-use Rattle.lists.specs.Lists.{In}
+use Rattle.lists.specs.Lists.{In, any}
 use Rattle.lists.specs.Words.{part}
 use Rattle.lists.specs.ListLaws.{in-append}
 use Rattle.lists.specs.PartLaws.{part-below, part-snoc}
@@ -29,6 +29,13 @@ square-fits r = mul-le-mul {n₂ = 65535} {m₂ = 65535} (r .settings .scale .hi
 -- the frame at a place
 pub look-below : {w : List ℕ} {n from to : ℕ} → CanLook w n from to → {p x : ℕ} → p < to → x ≡ getD w (3 * n + p) 0 → x < n
 look-below {w} {n} can {p} h e = rw e (part-below n w (3 * n) n p (can .below) (omega (arith, can .room)) (omega (arith, can .places)))
+
+-- whether it is core says what the core frames from its place on are
+look-first : {w : List ℕ} {n from to : ℕ} → CanLook w n from to → {p x : ℕ} → p < to → x ≡ getD w (3 * n + p) 0 → (b : Bool) → b ≡ eqb (getD w (4 * n + x) 0) 1
+    → coreAmong w n p to ≡ cond b (x ∷ coreAmong w n (p + 1) to) (coreAmong w n (p + 1) to)
+look-first {w} {n} {from} {to} can {p} h e b q =
+    among-first w n p to h (omega (arith, can .places, can .room)) b (q ∙ ap (λ (y : ℕ). eqb (getD w (4 * n + y) 0) 1) e)
+    ∙ ap (λ (y : ℕ). cond b (y ∷ coreAmong w n (p + 1) to) (coreAmong w n (p + 1) to)) (sym e)
 
 -- ---- each frame that is read has P
 pub record Reading (P : ℕ → Type 0) (w : List ℕ) (n from to p : ℕ) : Type 0 where
@@ -80,24 +87,19 @@ module _ {enough : ℕ} {f : ℕ → ℕ} {w : List ℕ} {n from to : ℕ} where
   looking-start can = record { can = can; high = can .order; bound = omega arith; value = refl }
 
   module _ {least p x : ℕ} (I : Looking enough f w n from to least p) (h : p < to) (e : x ≡ getD w (3 * n + p) 0) where
-    first : (b : Bool) → b ≡ eqb (getD w (4 * n + x) 0) 1 → coreAmong w n p to ≡ cond b (x ∷ coreAmong w n (p + 1) to) (coreAmong w n (p + 1) to)
-    first b q =
-        among-first w n p to h (omega (arith, I .can .places, I .can .room)) b (q ∙ ap (λ (y : ℕ). eqb (getD w (4 * n + y) 0) 1) e)
-        ∙ ap (λ (y : ℕ). cond b (y ∷ coreAmong w n (p + 1) to) (coreAmong w n (p + 1) to)) (sym e)
-
     pub looking-miss : false ≡ eqb (getD w (4 * n + x) 0) 1 → Looking enough f w n from to least (p + 1)
-    looking-miss q = record { can = I .can; high = omega arith; bound = I .bound; value = ap (leastUntil enough f least) (sym (first false q)) ∙ I .value }
+    looking-miss q = record { can = I .can; high = omega arith; bound = I .bound; value = ap (leastUntil enough f least) (sym (look-first (I .can) h e false q)) ∙ I .value }
 
     -- d is the number of a core frame
     module _ (q : true ≡ eqb (getD w (4 * n + x) 0) 1) {d : ℕ} (k : d ≡ f x) where
       pub looking-stop : d < enough → d ≡ leastUntil enough f beyond (coreAmong w n from to)
-      looking-stop l = k ∙ sym (least-stop enough f least x (coreAmong w n (p + 1) to) (omega arith)) ∙ ap (leastUntil enough f least) (sym (first true q)) ∙ I .value
+      looking-stop l = k ∙ sym (least-stop enough f least x (coreAmong w n (p + 1) to) (omega arith)) ∙ ap (leastUntil enough f least) (sym (look-first (I .can) h e true q)) ∙ I .value
 
       next : enough ≤ d → (b : Bool) → ltb d least ≡ b → leastUntil enough f (cond b d least) (coreAmong w n (p + 1) to) ≡ leastUntil enough f beyond (coreAmong w n from to)
       next l b t =
           ap (λ (y : ℕ). leastUntil enough f (cond b y least) (coreAmong w n (p + 1) to)) k
           ∙ sym (least-next enough f least x (coreAmong w n (p + 1) to) (omega arith) b (ap (λ (y : ℕ). ltb y least) (sym k) ∙ t))
-          ∙ ap (leastUntil enough f least) (sym (first true q)) ∙ I .value
+          ∙ ap (leastUntil enough f least) (sym (look-first (I .can) h e true q)) ∙ I .value
 
       pub looking-less : enough ≤ d → d < least → Looking enough f w n from to d (p + 1)
       looking-less l m = record { can = I .can; high = omega arith; bound = omega (arith, I .bound); value = next l true (lt-ltb d least m) }
@@ -109,6 +111,36 @@ module _ {enough : ℕ} {f : ℕ → ℕ} {w : List ℕ} {n from to : ℕ} where
   looking-end {least} {p} I h =
       let e : p ≡ to = omega (arith, I .high) in
       sym (ap (leastUntil enough f least) (ap (λ (y : ℕ). coreAmong w n y to) e ∙ among-none w n to) ∙ least-none enough f least) ∙ I .value
+
+-- ---- whether some core frame passes f: none at the places before p does
+pub record Seeking (f : ℕ → Bool) (w : List ℕ) (n from to p : ℕ) : Type 0 where
+  pub can : CanLook w n from to
+  pub high : p ≤ to
+  pub value : any f (coreAmong w n p to) ≡ any f (coreAmong w n from to)
+
+module _ {f : ℕ → Bool} {w : List ℕ} {n from to : ℕ} where
+  pub seeking-start : CanLook w n from to → Seeking f w n from to from
+  seeking-start can = record { can = can; high = can .order; value = refl }
+
+  module _ {p x : ℕ} (I : Seeking f w n from to p) (h : p < to) (e : x ≡ getD w (3 * n + p) 0) where
+    pub seeking-miss : false ≡ eqb (getD w (4 * n + x) 0) 1 → Seeking f w n from to (p + 1)
+    seeking-miss q = record { can = I .can; high = omega arith; value = ap (any f) (sym (look-first (I .can) h e false q)) ∙ I .value }
+
+    -- of a core frame
+    module _ (q : true ≡ eqb (getD w (4 * n + x) 0) 1) where
+      with-first : (b : Bool) → b ≡ f x → cond b true (any f (coreAmong w n (p + 1) to)) ≡ any f (coreAmong w n from to)
+      with-first b t = ap (λ (a : Bool). cond a true (any f (coreAmong w n (p + 1) to))) t ∙ ap (any f) (sym (look-first (I .can) h e true q)) ∙ I .value
+
+      pub seeking-found : true ≡ f x → true ≡ any f (coreAmong w n from to)
+      seeking-found t = with-first true t
+
+      pub seeking-pass : false ≡ f x → Seeking f w n from to (p + 1)
+      seeking-pass t = record { can = I .can; high = omega arith; value = with-first false t }
+
+  pub seeking-end : {p : ℕ} → Seeking f w n from to p → to ≤ p → false ≡ any f (coreAmong w n from to)
+  seeking-end {p} I h =
+      let e : p ≡ to = omega (arith, I .high) in
+      ap (any f) (sym (ap (λ (y : ℕ). coreAmong w n y to) e ∙ among-none w n to)) ∙ I .value
 
 -- ---- the far reach: a is 2 ^ s
 pub shifted : (s : ℕ) → s ≤ 10 → 1 * 2 ^ s % 2 ^ 64 ≡ 2 ^ s

@@ -1,24 +1,33 @@
--- What the frames looked at say of the count in a cell's tree: a core frame nearer than t gives a hit, and none of those out of reach does.
+-- What a cell's root box and its frames say of the count in its tree: by whole numbers of the box, a core frame nearer than t, all of them out of reach, or their own paths.
 use mathlib.Core.Path.{_≡_, sym, ap, subst, _∙_}
 use mathlib.Core.Bool.{Bool, true, false, not}
 use mathlib.Core.List.{List}
 use Prim.Native.Nat.{ℕ, _+_, _-_, _*_, _^_, _<_, _≤_}
 use native.Mathlib.Omega.{arith}
 use native.Mathlib.Nat.{mul-le-mul-right}
-use borrow.Author.Tests.{leb-true}
+use borrow.Author.Tests.{leb-true, not-false}
 use lib.IntN.{ℤ}
 use lib.Dec.{T, eqb}
-use lib.ListN.{length, getD}
+use lib.ListN.{length, getD, take}
+use lib.Ieee.{Float}
 use Rattle.lists.specs.Lists.{In, Below, any, nonzero}
 use Rattle.lists.specs.Words.{part}
-use Rattle.lists.specs.ListLaws.{true-T, T-true, nonzero-eqb, any-in, any-none}
+use Rattle.lists.specs.ListLaws.{true-T, T-true, both-ways, nonzero-eqb, any-in, any-none}
 use Rattle.hyperparams.specs.declared.ValidParams.{ValidParams}
-use Rattle.counting_tree.specs.Frames.{Frame, framesIn}
+use Rattle.hyperparams.specs.Params.{float}
+use Rattle.counting_tree.specs.declared.Box.{Box}
+use Rattle.counting_tree.specs.declared.IntersectionType.{IntersectionType}
+use Rattle.counting_tree.specs.declared.IntersectionType.the-variants.{Disjoint, FullyCovered}
+use Rattle.counting_tree.specs.Frames.{Frame, framesIn, floats}
+use Rattle.counting_tree.specs.Grid.{sideAt, centres}
+use Rattle.counting_tree.specs.Box.{sumFrom}
 use Rattle.counting_tree.specs.Geometry.{Geometry, frame, N, FarReach}
 use Rattle.counting_tree.specs.Paths as Paths
 use Rattle.counting_tree.specs.Domain.{Counts}
 use Rattle.counting_tree.specs.Ready.{geometryAt, Ready, at-frames}
 use Rattle.counting_tree.specs.Reach.{near-reaches, reaches-far}
+use Rattle.counting_tree.specs.Settled.{settledBy}
+use Rattle.counting_tree.specs.SettledLaws.{settled-disjoint, settled-covered}
 use Rattle.cells_grid.specs.Cells.{node, count}
 use Rattle.cells_grid.specs.Lawful.{Lawful}
 use Rattle.cells_grid.specs.Ready.{ready-lawful}
@@ -29,11 +38,31 @@ use Rattle.cells_grid.specs.ArrangementLaws.{arranged-below, words-count, cell-
 use Rattle.tree_structure.specs.declared.Counted.{Counted}
 use Rattle.tree_structure.specs.Encode.{toldOf}
 use Rattle.core_cells.specs.Forest.{coreAmong, treeFrames, Grown}
-use Rattle.core_cells.specs.ForestLaws.{frames-below, no-tree-node, has-tree, among-core}
-use Rattle.core_cells.specs.Nearest.{lookedTo, CanLook, beyond, leastUntil, outOfReach}
-use Rattle.core_cells.specs.NearestLaws.{looked-within, among-place, among-within, least-found, least-le}
+use Rattle.core_cells.specs.ForestLaws.{frames-below, no-tree-node, is-core-cell, among-core}
+use Rattle.core_cells.specs.Nearest.{CanLook, beyond, leastUntil, outOfReach}
+use Rattle.core_cells.specs.NearestLaws.{among-place, least-found, least-le}
+use Rattle.core_cells.specs.RootBox.{rootBox}
+use Rattle.core_cells.specs.RootBoxLaws.{disjoint-count, covered-count, root-centre}
 use Rattle.core_cells.proofs.Counting.{word-inside}
 use Rattle.core_cells.proofs.Looking.{square-fits}
+use Rattle.core_cells.proofs.Rooted.{first-is, first-low}
+
+-- what is asked with a root box, without it
+pub asked : {ps : List ℤ} {v : ValidParams} {n k : ℕ} {w : List ℕ} {q c : ℕ} {root : Box} → Ready ps v n × Grown (geometryAt v n ps) k w × (q < n) × (c < k) × (root ≡ rootBox v n ps c)
+    → Ready ps v n × Grown (geometryAt v n ps) k w × (q < n) × (c < k)
+asked p = (p .0, p .1, p .2, p .3)
+
+-- a frame out of reach does not reach by its own path
+module _ {ps : List ℤ} {v : ValidParams} {n : ℕ} (r : Ready ps v n) {q x : ℕ} (hq : q < n) (hx : x < n)
+    (cq : Counts (frame v (framesIn n (v .channels) ps) q)) (cx : Counts (frame v (framesIn n (v .channels) ps) x)) where
+  no-path : (d : ℕ) → outOfReach (v .t) (v .s) d ≡ true → d ≤ N v (framesIn n (v .channels) ps) q x → T (Paths.reaches (geometryAt v n ps .box q) (geometryAt v n ps .levels) 0 x) → ⊥
+  unfolding outOfReach
+  no-path d o l t =
+      let f : FarReach v (framesIn n (v .channels) ps) q x = reaches-far r q x hq hx cq cx t in
+      omega (arith, f, leb-true (v .t * (2 ^ v .s + 1) * (v .t * (2 ^ v .s + 1)) + 4 ^ v .s) (d * 4 ^ v .s) o, mul-le-mul-right (4 ^ v .s) l)
+
+  pub no-reach : {d : ℕ} → d ≡ N v (framesIn n (v .channels) ps) q x → outOfReach (v .t) (v .s) d ≡ true → false ≡ Paths.reaches (geometryAt v n ps .box q) (geometryAt v n ps .levels) 0 x
+  no-reach {d} e o = both-ways false (Paths.reaches (geometryAt v n ps .box q) (geometryAt v n ps .levels) 0 x) (λ t. absurd t) (λ t. absurd (no-path d o (omega arith) t))
 
 module _ {ps : List ℤ} {v : ValidParams} {n k : ℕ} {w : List ℕ} {q c : ℕ} (p : Ready ps v n × Grown (geometryAt v n ps) k w × (q < n) × (c < k)) where
   abbrev g : Geometry
@@ -61,58 +90,78 @@ module _ {ps : List ℤ} {v : ValidParams} {n k : ℕ} {w : List ℕ} {q c : ℕ
   pub treeless : (b : Bool) → b ≡ nonzero (getD w (5 * n + c) 0) → not b ≡ true → false ≡ nonzero (count (geometryAt v n ps) q (cellAt (geometryAt v n ps) c))
   unfolding count
   treeless true z f = absurd (true-T f)
-  treeless false z f = sym (ap (λ (x : List ℕ). nonzero (length x)) (no-tree-node g c (sym (z ∙ has-tree (p .1) e c (p .3))) q))
+  treeless false z f = sym (ap (λ (x : List ℕ). nonzero (length x)) (no-tree-node g c (sym (z ∙ is-core-cell (p .1) e c (p .3))) q))
 
   -- the tree's own count
   pub told-count : {r : Counted} → r ≡ toldOf (node (geometryAt v n ps) q (cellAt (geometryAt v n ps) c)) → not (eqb (r .count) 0) ≡ nonzero (count (geometryAt v n ps) q (cellAt (geometryAt v n ps) c))
   unfolding count
   told-count z = ap (λ (x : Counted). not (eqb (x .count) 0)) z ∙ nonzero-eqb (length (node g q (cellAt g c)))
 
+  -- ---- its root box
+  -- the first frame x lies in the root box, of which `told` is what whole numbers tell
+  module _ (own : Counts (frame v (framesIn n (v .channels) ps) q)) {x : ℕ} (ex : x ≡ getD w (n + c) 0) (head : Counts (frame v (framesIn n (v .channels) ps) x))
+      {root : Box} (er : root ≡ rootBox v n ps c) {told : IntersectionType}
+      (et : told ≡ settledBy v (sumFrom (float 0) (floats (frame v (framesIn n (v .channels) ps) q)) (take (v .channels) (root .centre)))) where
+    is-first : x ≡ cellAt g c
+    is-first = first-is (p .0) (p .1) (p .3) ex
+
+    low : cellAt g c < n
+    low = omega (arith, is-first, first-low (p .0) (p .1) (p .3) ex)
+
+    counts : Counts (frame v fs (cellAt g c))
+    counts = subst (λ (y : ℕ). Counts (frame v fs y)) is-first head
+
+    telling : {t : IntersectionType} → told ≡ t → settledBy v (sumFrom (float 0) (floats (frame v fs q)) (centres (sideAt (v .channels) (v .tolerance) 0) (frame v fs (cellAt g c)))) ≡ t
+    telling z =
+        ap (λ (l : List Float). settledBy v (sumFrom (float 0) (floats (frame v fs q)) l)) (sym (ap (λ (b : Box). take (v .channels) (b .centre)) er ∙ root-centre (p .0) c low))
+        ∙ sym et ∙ z
+
+    pub box-apart : told ≡ Disjoint → false ≡ nonzero (count (geometryAt v n ps) q (cellAt (geometryAt v n ps) c))
+    box-apart z = sym (disjoint-count g L q (cellAt g c) (settled-disjoint (p .0) q (cellAt g c) (p .2) low own counts (telling z)))
+
+    pub box-inside : told ≡ FullyCovered → {b : Bool} → b ≡ nonzero (getD w (5 * n + c) 0) → not b ≡ false → true ≡ nonzero (count (geometryAt v n ps) q (cellAt (geometryAt v n ps) c))
+    box-inside z {b} eb f =
+        sym (covered-count g L q (cellAt g c) (settled-covered (p .0) q (cellAt g c) (p .2) low own counts (telling z))
+        (true-T (sym (is-core-cell (p .1) e c (p .3)) ∙ sym eb ∙ not-false b f)))
+
+  -- ---- its frames
   module _ {from end : ℕ} (ef : from ≡ getD w (2 * n + c) 0) (ee : end ≡ endIn w n k c) where
-    pub places-order : from ≤ end
-    places-order = omega (arith, cell-size g L (C .cells) n e c (p .3) ef ee)
+    pub can-look : CanLook w n from end
+    can-look = record {
+      order = omega (arith, cell-size g L (C .cells) n e c (p .3) ef ee);
+      places = omega (arith, cell-end-le g L (C .cells) n e c (p .3) ef ee);
+      room = omega (arith, slot);
+      below = subst (λ m. Below m (part w (3 * m) m)) e (subst (Below (g .frames)) (sym (C .cells .places)) (arranged-below g L));
+    }
 
-    module _ {to : ℕ} (et : to ≡ lookedTo from end) where
-      within : (from ≤ to) × (to ≤ end)
-      within = rw et (looked-within from end places-order)
+    -- the frames of the tree
+    among : coreAmong w n from end ≡ treeFrames g c
+    among = among-core L C e c (p .3) ef ee
 
-      pub can-look : CanLook w n from to
-      can-look = record {
-        order = within .0;
-        places = omega (arith, within .1, cell-end-le g L (C .cells) n e c (p .3) ef ee);
-        room = omega (arith, slot);
-        below = subst (λ m. Below m (part w (3 * m) m)) e (subst (Below (g .frames)) (sym (C .cells .places)) (arranged-below g L));
-      }
+    abbrev path : ℕ → Bool
+    path = Paths.reaches (g .box q) (g .levels) 0
 
-      -- the frames of the tree
-      among : coreAmong w n from end ≡ treeFrames g c
-      among = among-core L C e c (p .3) ef ee
+    pub by-paths : {b : Bool} → b ≡ any (Paths.reaches (geometryAt v n ps .box q) (geometryAt v n ps .levels) 0) (coreAmong w n from end)
+        → b ≡ nonzero (count (geometryAt v n ps) q (cellAt (geometryAt v n ps) c))
+    by-paths z = z ∙ ap (any path) among ∙ sym (count-path g L q (cellAt g c))
 
-      frame-low : (x : ℕ) → In x (treeFrames g c) → x < n
-      frame-low x i = omega (arith, frames-below g c x i, e)
+    frame-low : (x : ℕ) → In x (coreAmong w n from end) → x < n
+    frame-low x i = omega (arith, frames-below g c x (subst (In x) among i), e)
 
-      module _ (own : Counts (frame v (framesIn n (v .channels) ps) q))
-          (all : (x : ℕ) → In x (part w (3 * n + from) (to - from)) → Counts (frame v (framesIn n (v .channels) ps) x))
-          {least : ℕ} (el : least ≡ leastUntil (v .t * v .t) (N v (framesIn n (v .channels) ps) q) beyond (coreAmong w n from to)) where
-        abbrev path : ℕ → Bool
-        path = Paths.reaches (g .box q) (g .levels) 0
+    module _ (own : Counts (frame v (framesIn n (v .channels) ps) q))
+        (all : (x : ℕ) → In x (part w (3 * n + from) (end - from)) → Counts (frame v (framesIn n (v .channels) ps) x))
+        {least : ℕ} (el : least ≡ leastUntil (v .t * v .t) (N v (framesIn n (v .channels) ps) q) beyond (coreAmong w n from end)) where
+      pub hit : least < v .t * v .t → true ≡ nonzero (count (geometryAt v n ps) q (cellAt (geometryAt v n ps) c))
+      hit l =
+          let z = least-found (v .t * v .t) (N v fs q) beyond (coreAmong w n from end) (omega (arith, square-fits (p .0))) (omega (arith, el)) in
+          let t = near-reaches (p .0) q (z .0) (p .2) (frame-low (z .0) (z .1)) own (all (z .0) (among-place w n from end (z .0) (z .1))) (z .2) in
+          by-paths (sym (T-true (any path (coreAmong w n from end)) (any-in path (z .0) (coreAmong w n from end) (z .1) t)))
 
-        pub hit : least < v .t * v .t → true ≡ nonzero (count (geometryAt v n ps) q (cellAt (geometryAt v n ps) c))
-        hit l =
-            let z = least-found (v .t * v .t) (N v fs q) beyond (coreAmong w n from to) (omega (arith, square-fits (p .0))) (omega (arith, el)) in
-            let i : In (z .0) (treeFrames g c) = subst (In (z .0)) among (among-within w n from to end (z .0) (within .0) (within .1) (z .1)) in
-            let t = near-reaches (p .0) q (z .0) (p .2) (frame-low (z .0) i) own (all (z .0) (among-place w n from to (z .0) (z .1))) (z .2) in
-            sym (count-path g L q (cellAt g c) ∙ T-true (any path (treeFrames g c)) (any-in path (z .0) (treeFrames g c) i t))
+      pub out : v .t * v .t ≤ least → outOfReach (v .t) (v .s) least ≡ true → false ≡ nonzero (count (geometryAt v n ps) q (cellAt (geometryAt v n ps) c))
+      out l o = by-paths (sym (any-none path (coreAmong w n from end) apart))
+        where
+          low : (x : ℕ) → In x (coreAmong w n from end) → least ≤ N v fs q x
+          low x i = omega (arith, el, least-le (v .t * v .t) (N v fs q) beyond (coreAmong w n from end) (omega (arith, el)) .1 x i)
 
-        pub out : to ≡ end → v .t * v .t ≤ least → outOfReach (v .t) (v .s) least ≡ true → false ≡ nonzero (count (geometryAt v n ps) q (cellAt (geometryAt v n ps) c))
-        unfolding outOfReach
-        out s l o = sym (count-path g L q (cellAt g c) ∙ any-none path (treeFrames g c) apart)
-          where
-            low : (x : ℕ) → In x (coreAmong w n from to) → least ≤ N v fs q x
-            low x i = omega (arith, el, least-le (v .t * v .t) (N v fs q) beyond (coreAmong w n from to) (omega (arith, el)) .1 x i)
-
-            apart : (x : ℕ) → In x (treeFrames g c) → T (path x) → ⊥
-            apart x i t =
-                let j : In x (coreAmong w n from to) = rw s (subst (In x) (sym among) i) in
-                let f : FarReach v fs q x = reaches-far (p .0) q x (p .2) (frame-low x i) own (all x (among-place w n from to x j)) t in
-                omega (arith, f, leb-true (v .t * (2 ^ v .s + 1) * (v .t * (2 ^ v .s + 1)) + 4 ^ v .s) (least * 4 ^ v .s) o, mul-le-mul-right (4 ^ v .s) (low x j))
+          apart : (x : ℕ) → In x (coreAmong w n from end) → T (path x) → ⊥
+          apart x i t = no-path (p .0) (p .2) (frame-low x i) own (all x (among-place w n from end x i)) least o (low x i) t

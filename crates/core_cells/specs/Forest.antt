@@ -1,9 +1,10 @@
--- The trees of the core cells in the lent work words: where each cell's tree begins, and the nodes of all trees in ascending cell number. Definitions only.
+-- The trees of the core cells with more than a few core frames, in the lent work words: where each cell's tree begins, and the nodes of all trees
+-- in ascending cell number. Definitions only.
 use mathlib.Core.Path.{_≡_}
 use mathlib.Core.Bool.{Bool, cond}
 use mathlib.Core.List.{List, [], _++_}
 use Prim.Native.Nat.{ℕ, zero, suc, _+_, _-_, _*_, _≤_}
-use lib.Dec.{eqb}
+use lib.Dec.{eqb, ltb}
 use lib.ListN.{length, getD}
 use Rattle.lists.specs.Lists.{keep, Below}
 use Rattle.lists.specs.Words.{part, column}
@@ -26,36 +27,47 @@ pub record CanGather (w : List ℕ) (n from to at : ℕ) : Type 0 where
   pub room : at + n ≤ length w
   pub below : Below n (part w (3 * n + from) (to - from))
 
+-- a run builds the trees of the cells with more core frames than this
+abbrev pub paths : ℕ
+paths = 1024
+
 module _ (g : Geometry) where
   -- the core frames of the cell with number c, and whether there are any
   abbrev pub treeFrames : ℕ → List ℕ
   treeFrames c = coreMembers g (cellAt g c)
 
-  abbrev pub hasTree : ℕ → Bool
-  hasTree c = coreCell g (cellAt g c)
+  abbrev pub isCore : ℕ → Bool
+  isCore c = coreCell g (cellAt g c)
 
-  -- the nodes of its tree and their words: none where it is no core cell
-  unfoldable pub treeSize : ℕ → ℕ
-  treeSize c = cond (hasTree c) (size (g .same) (g .levels) 0 (treeFrames c)) 0
+  module _ (few : ℕ) where
+    -- it has a tree: there are more than `few`
+    abbrev pub isLarge : ℕ → Bool
+    isLarge c = ltb few (length (treeFrames c))
 
-  unfoldable pub treeWords : ℕ → List ℕ
-  treeWords c = cond (hasTree c) (encode (g .same) (g .levels) 0 (treeFrames c)) []
+    -- the nodes of its tree and their words: none where it has no tree
+    unfoldable pub treeSize : ℕ → ℕ
+    treeSize c = cond (isLarge c) (size (g .same) (g .levels) 0 (treeFrames c)) 0
 
-  -- the nodes of the trees of the cells with numbers below c, and their words
-  unfoldable pub nodesTo : ℕ → ℕ
-  nodesTo zero = 0
-  nodesTo (suc c) = nodesTo c + treeSize c
+    unfoldable pub treeWords : ℕ → List ℕ
+    treeWords c = cond (isLarge c) (encode (g .same) (g .levels) 0 (treeFrames c)) []
 
-  unfoldable pub forestTo : ℕ → List ℕ
-  forestTo zero = []
-  forestTo (suc c) = forestTo c ++ treeWords c
+    -- the nodes of the trees of the cells with numbers below c, and their words
+    unfoldable pub nodesTo : ℕ → ℕ
+    nodesTo zero = 0
+    nodesTo (suc c) = nodesTo c + treeSize c
 
-  -- where the tree of the cell with number c begins: 0 where there is none, else one more than the number of its first node
-  unfoldable pub treeWord : ℕ → ℕ
-  treeWord c = cond (hasTree c) (1 + nodesTo c) 0
+    unfoldable pub forestTo : ℕ → List ℕ
+    forestTo zero = []
+    forestTo (suc c) = forestTo c ++ treeWords c
+
+    -- where the tree of the cell with number c begins: 0 where it is no core cell, 1 where it is one without a tree,
+    -- else two more than the number of the tree's first node
+    unfoldable pub treeWord : ℕ → ℕ
+    treeWord c = cond (isCore c) (cond (isLarge c) (2 + nodesTo c) 1) 0
 
   -- the words hold k cells and which frames are core, from 5n where each cell's tree begins, from 16n the nodes
   pub record Grown (k : ℕ) (w : List ℕ) : Type 0 where
+    pub few : ℕ
     pub cored : Cored g k w
-    pub trees : part w (5 * g .frames) k ≡ column treeWord k
-    pub forest : part w (16 * g .frames) (length (forestTo k)) ≡ forestTo k
+    pub trees : part w (5 * g .frames) k ≡ column (treeWord few) k
+    pub forest : part w (16 * g .frames) (length (forestTo few k)) ≡ forestTo few k

@@ -2,3 +2,5 @@ pub mod Forest
 pub mod ForestLaws
 pub mod Nearest
 pub mod NearestLaws
+pub mod RootBox
+pub mod RootBoxLaws

@@ -1,22 +1,11 @@
--- Whole numbers before the tree: which frames of a cell are looked at one by one, and the least sum of squared differences found. Definitions only.
+-- Whole numbers before the tree: the least sum of squared differences among the core frames at some places. Definitions only.
 use mathlib.Core.Bool.{Bool, cond}
 use mathlib.Core.List.{List, [], _∷_}
-use Prim.Native.Nat.{ℕ, _+_, _-_, _*_, _^_, _≤_}
+use Prim.Native.Nat.{ℕ, _+_, _*_, _^_, _≤_}
 use lib.Dec.{leb, ltb}
 use lib.ListN.{length}
 use Rattle.lists.specs.Lists.{Below}
 use Rattle.lists.specs.Words.{part}
-
--- all frames of a cell of at most `small` are looked at, of a larger one the first `few`
-abbrev pub small : ℕ
-small = 32
-
-abbrev pub few : ℕ
-few = 8
-
--- up to which of the places from `from` up to `end` that is
-unfoldable pub lookedTo : ℕ → ℕ → ℕ
-lookedTo from end = cond (leb (end - from) small) end (from + few)
 
 -- what looking at the frames at the places from `from` up to `to` asks of the words
 pub record CanLook (w : List ℕ) (n from to : ℕ) : Type 0 where

@@ -6,27 +6,16 @@ use mathlib.Core.List.{List, [], _∷_}
 use Prim.Native.Nat.{ℕ, _+_, _-_, _*_, _<_, _≤_}
 use native.Mathlib.Omega.{arith}
 use borrow.Author.Tests.{lt-ltb, le-ltb}
-use lib.Dec.{leb, ltb, eqb, ltb→lt, nltb→le, nleb→lt}
+use lib.Dec.{ltb, eqb, ltb→lt, nltb→le}
 use lib.ListN.{length, getD}
-use Rattle.lists.specs.Lists.{keep, In}
+use Rattle.lists.specs.Lists.{In}
 use Rattle.lists.specs.Words.{part}
-use Rattle.lists.specs.ListLaws.{T-or-not, cond-true, cond-false, in-keep, append-one}
-use Rattle.lists.specs.CountLaws.{keep-append}
-use Rattle.lists.specs.PartLaws.{part-add, part-first}
+use Rattle.lists.specs.ListLaws.{T-or-not, cond-true, cond-false, in-keep}
+use Rattle.lists.specs.PartLaws.{part-first}
 use Rattle.core_cells.specs.Forest.{coreAmong}
-use Rattle.core_cells.specs.Nearest.{small, few, lookedTo, leastUntil}
+use Rattle.core_cells.specs.Nearest.{leastUntil}
 
--- ---- the places that are looked at
-pub looked-within : (from end : ℕ) → from ≤ end → (from ≤ lookedTo from end) × (lookedTo from end ≤ end)
-unfolding lookedTo
-looked-within from end h = elim (T-or-not (leb (end - from) small)) [
-  | inl t ↦ rw (cond-true (leb (end - from) small) end (from + few) t) (omega arith)
-  | inr f ↦
-      let l : small < end - from = nleb→lt (end - from) small f in
-      rw (cond-false (leb (end - from) small) end (from + few) f) (omega arith)
-]
-
--- ---- core frames among places: the first place, and all of more places
+-- ---- core frames among places, by the first place
 pub among-none : (w : List ℕ) (n from : ℕ) → coreAmong w n from from ≡ []
 unfolding coreAmong
 among-none w n from =
@@ -44,14 +33,6 @@ among-first w n from to h l b q =
 pub among-place : (w : List ℕ) (n from to x : ℕ) → In x (coreAmong w n from to) → In x (part w (3 * n + from) (to - from))
 unfolding coreAmong
 among-place w n from to x i = in-keep (λ i. eqb (getD w (4 * n + i) 0) 1) x (part w (3 * n + from) (to - from)) i .0
-
-pub among-within : (w : List ℕ) (n from to end x : ℕ) → from ≤ to → to ≤ end → In x (coreAmong w n from to) → In x (coreAmong w n from end)
-unfolding coreAmong
-among-within w n from to end x h k i =
-    let m : end - from ≡ to - from + (end - to) = omega arith in
-    rw (m, part-add w (3 * n + from) (to - from) (end - to))
-    (rw (keep-append (λ i. eqb (getD w (4 * n + i) 0) 1) (part w (3 * n + from) (to - from)) (part w (3 * n + from + (to - from)) (end - to)))
-    (append-one x (keep (λ i. eqb (getD w (4 * n + i) 0) 1) (part w (3 * n + from) (to - from))) _ i))
 
 -- ---- the least number found
 module _ (enough : ℕ) (f : ℕ → ℕ) where

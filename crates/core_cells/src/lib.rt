@@ -1,9 +1,11 @@
-// The trees of the core cells (CoreCellInfo of the source), in words of one lent slice: built for all cells, and asked for the count of a frame,
-// or only whether it is 0, which whole numbers mostly tell without the tree.
+// The trees of the core cells (CoreCellInfo of the source), in words of one lent slice: built for the cells with more than a few core frames,
+// and asked for the count of a frame, or only whether it is 0, which whole numbers mostly tell without the tree.
 // `v` has the settings, `n` is the number of frames, `k` the number of cells.
 use cells_grid::PLACES;
 use cells_grid::STARTS;
 use cells_grid::listing::TREES;
+use counting_tree::Box;
+use counting_tree::IntersectionType;
 use hyperparams::ValidParams;
 use lists::Word;
 use tree_structure::Counted;
@@ -11,18 +13,20 @@ ghost use mathlib.Core.Path.{_≡_};
 ghost use mathlib.Core.List.{[], _∷_};
 ghost use Prim.Native.Nat.{ℕ, _+_, _-_, _*_, _<_, _≤_};
 ghost use lib.ListN.{length, getD};
-ghost use Rattle.lists.specs.Lists.{In, nonzero};
+ghost use Rattle.lists.specs.Lists.{In, any, nonzero};
 ghost use Rattle.lists.specs.Words.{over, part, column, Clear};
 ghost use Rattle.hyperparams.specs.Params.{maxPower, workWords};
 ghost use Rattle.counting_tree.specs.Frames.{framesIn};
 ghost use Rattle.counting_tree.specs.Geometry.{frame, N};
 ghost use Rattle.counting_tree.specs.Domain.{Counts};
+ghost use Rattle.counting_tree.specs.Paths as Paths;
 ghost use Rattle.counting_tree.specs.Ready.{geometryAt, Ready};
 ghost use Rattle.cells_grid.specs.Cells.{node, count};
 ghost use Rattle.cells_grid.specs.Arrangement.{cellAt, Cored};
 ghost use Rattle.tree_structure.specs.Encode.{toldOf};
 ghost use Rattle.core_cells.specs.Forest.{coreAmong, CanGather, treeSize, treeWords, nodesTo, forestTo, treeWord, Grown};
-ghost use Rattle.core_cells.specs.Nearest.{lookedTo, CanLook, beyond, leastUntil, outOfReach};
+ghost use Rattle.core_cells.specs.Nearest.{CanLook, beyond, leastUntil, outOfReach};
+ghost use Rattle.core_cells.specs.RootBox.{rootBox};
 
 // The regions, of one word a frame: from 5n on where the tree of each cell begins, from 10n on the core frames of one cell,
 // from 11n and 12n on what building its tree needs; these three are 0 before and after. From 16n on the nodes, of four words.
@@ -34,10 +38,8 @@ const SCRATCH: usize = 12;
 
 const NODES: usize = 16;
 
-// All frames of a cell of at most SMALL are looked at one by one before its tree is asked, of a larger one the first FEW.
-const SMALL: usize = 32;
-
-const FEW: usize = 8;
+// A cell with at most so many core frames has no tree: its frames' own paths are taken.
+pub const PATHS: usize = 1024;
 
 // More than any sum of squared differences.
 const BEYOND: u64 = 34359738368;
@@ -64,21 +66,23 @@ fn gather_core(work: &mut [Word], n: usize, from: usize, to: usize, at: usize) -
     m
 }
 
-// Writes the tree of cell c from `at` on, if the cell has a core frame, and where it begins. Returns the place after it.
+// Writes the tree of cell c from `at` on, if the cell has more than `few` core frames, and the word that says where it begins:
+// 0 where it has no core frame, 1 where it has no tree. Returns the place after it.
 fn build_tree(
     points: &[i16],
     v: ValidParams,
     n: usize,
     k: usize,
     work: &mut [Word],
+    few: usize,
     c: usize,
     at: usize,
 ) -> usize
     requires { ⌜ Ready (now points) v n × Cored (geometryAt v n (now points)) k (now work) ⌝ }
-    requires { ⌜ (c < k) × (at ≡ 16 * n + 4 * nodesTo (geometryAt v n (now points)) c) ⌝ }
+    requires { ⌜ (c < k) × (at ≡ 16 * n + 4 * nodesTo (geometryAt v n (now points)) few c) ⌝ }
     requires { ⌜ (workWords n (v .s) ≤ length (now work)) × Clear (now work) (10 * n) (3 * n) ⌝ }
-    ensures { λ r. ⌜ r ≡ at + 4 * treeSize (geometryAt v n (now (points .entry))) c ⌝ }
-    ensures { λ _. ⌜ (let g = geometryAt v n (now (points .entry)) in now (work .exit) ≡ over (over (now (work .entry)) (5 * n + c) (treeWord g c ∷ [])) at (treeWords g c)) ⌝ }
+    ensures { λ r. ⌜ r ≡ at + 4 * treeSize (geometryAt v n (now (points .entry))) few c ⌝ }
+    ensures { λ _. ⌜ (let g = geometryAt v n (now (points .entry)) in now (work .exit) ≡ over (over (now (work .entry)) (5 * n + c) (treeWord g few c ∷ [])) at (treeWords g few c)) ⌝ }
 {
     let from = lists::word(work, STARTS * n + c);
     let to = cells_grid::cell_end(work, n, k, c);
@@ -89,39 +93,51 @@ fn build_tree(
         work[slot] = 0;
         return at;
     }
+    if m <= few {
+        lists::clear_words(work, lo, m);
+        work[slot] = 1;
+        return at;
+    }
     let hi = lo + m;
     let copy = COPY * n;
     let scratch = SCRATCH * n;
     let next = tree_structure::build_structure(points, v, n, work, lo, hi, copy, scratch, at);
     lists::clear_words(work, lo, m);
-    work[slot] = (1 + (at - NODES * n) / 4) as Word;
+    work[slot] = (2 + (at - NODES * n) / 4) as Word;
     next
 }
 
-// Writes the trees of the core cells, and where the tree of each cell begins.
-pub fn build_trees(points: &[i16], v: ValidParams, n: usize, k: usize, work: &mut [Word])
+// Writes the trees of the cells with more than `few` core frames, and where the tree of each cell begins.
+pub fn build_trees(
+    points: &[i16],
+    v: ValidParams,
+    n: usize,
+    k: usize,
+    work: &mut [Word],
+    few: usize,
+)
     requires { ⌜ Ready (now points) v n × Cored (geometryAt v n (now points)) k (now work) ⌝ }
     requires { ⌜ (workWords n (v .s) ≤ length (now work)) × Clear (now work) (10 * n) (3 * n) ⌝ }
-    ensures { λ _. ⌜ (let g = geometryAt v n (now (points .entry)) in now (work .exit) ≡ over (over (now (work .entry)) (5 * n) (column (treeWord g) k)) (16 * n) (forestTo g k)) ⌝ }
+    ensures { λ _. ⌜ (let g = geometryAt v n (now (points .entry)) in now (work .exit) ≡ over (over (now (work .entry)) (5 * n) (column (treeWord g few) k)) (16 * n) (forestTo g few k)) ⌝ }
 {
     let mut at = NODES * n;
     let mut c = 0;
     while c < k {
-        let next = build_tree(points, v, n, k, work, c, at);
+        let next = build_tree(points, v, n, k, work, few, c, at);
         at = next;
         c += 1;
     }
 }
 
-// Whether cell c has a tree, which is whether it is a core cell.
-pub fn has_tree(work: &[Word], n: usize, c: usize) -> bool
+// Whether cell c is a core cell.
+pub fn is_core_cell(work: &[Word], n: usize, c: usize) -> bool
     requires { ⌜ 5 * n + c < length (now work) ⌝ }
     ensures { λ r. ⌜ r ≡ nonzero (getD (now (work .entry)) (5 * n + c) 0) ⌝ }
 {
     lists::word(work, TREES * n + c) != 0
 }
 
-// The count of frame q in the tree of cell c; 0 where it has none.
+// The count of frame q in the tree of cell c.
 pub fn tree_count(
     points: &[i16],
     v: ValidParams,
@@ -131,25 +147,11 @@ pub fn tree_count(
     q: usize,
     c: usize,
 ) -> Counted
-    requires { ⌜ Ready (now points) v n × Grown (geometryAt v n (now points)) k (now work) × (q < n) × (c < k) ⌝ }
+    requires { ⌜ Ready (now points) v n × Grown (geometryAt v n (now points)) k (now work) × (q < n) × (c < k) × (1 < getD (now work) (5 * n + c) 0) ⌝ }
     ensures { λ r. ⌜ (let g = geometryAt v n (now (points .entry)) in r ≡ toldOf (node g q (cellAt g c))) ⌝ }
 {
     let t = lists::word(work, TREES * n + c);
-    if t == 0 {
-        return Counted { count: 0, first: 0 };
-    }
-    tree_structure::approximate_range_counting(points, v, n, work, q, NODES * n + 4 * (t - 1))
-}
-
-// Up to which of a cell's places, from `from` up to `end`, the frames are looked at one by one.
-fn looked_to(from: usize, end: usize) -> usize
-    requires { ⌜ from ≤ end ⌝ }
-    ensures { λ r. ⌜ r ≡ lookedTo from end ⌝ }
-{
-    if end - from <= SMALL {
-        return end;
-    }
-    from + FEW
+    tree_structure::approximate_range_counting(points, v, n, work, q, NODES * n + 4 * (t - 2))
 }
 
 // The first sum of squared differences below t × t of frame q and a core frame at the places from `from` up to `to`;
@@ -215,9 +217,60 @@ fn out_of_reach(t: u64, s: usize, square: u64) -> bool
     reach * reach + four <= square * four
 }
 
+// Whether frame x reaches frame q by its own path: none that is out of reach does.
+fn frame_reaches(points: &[i16], v: ValidParams, n: usize, q: usize, x: usize) -> bool
+    requires { ⌜ Ready (now points) v n × (q < n) × (x < n) ⌝ }
+    ensures { λ r. ⌜ (let g = geometryAt v n (now (points .entry)) in r ≡ Paths.reaches (g .box q) (g .levels) 0 x) ⌝ }
+{
+    let apart = counting_tree::points::square_apart(points, v, n, q, x);
+    if out_of_reach(v.t, v.s, apart) {
+        return false;
+    }
+    counting_tree::paths::reaches(points, v, n, q, x)
+}
+
+// Whether a core frame at the places from `from` up to `to` reaches frame q by its own path.
+fn some_reaches(
+    points: &[i16],
+    v: ValidParams,
+    n: usize,
+    work: &[Word],
+    q: usize,
+    from: usize,
+    to: usize,
+) -> bool
+    requires { ⌜ Ready (now points) v n × (q < n) × CanLook (now work) n from to ⌝ }
+    ensures { λ r. ⌜ (let g = geometryAt v n (now (points .entry)) in r ≡ any (Paths.reaches (g .box q) (g .levels) 0) (coreAmong (now (work .entry)) n from to)) ⌝ }
+{
+    let mut p = from;
+    while p < to {
+        let next = p + 1;
+        let x = lists::word(work, PLACES * n + p);
+        if cells_grid::is_core(work, n, x) {
+            if frame_reaches(points, v, n, q, x) {
+                return true;
+            }
+            p = next;
+        } else {
+            p = next;
+        }
+    }
+    false
+}
+
+// The root box of cell c: all its frames lie in it.
+pub fn root_box(points: &[i16], v: ValidParams, n: usize, k: usize, work: &[Word], c: usize) -> Box
+    requires { ⌜ Ready (now points) v n × Grown (geometryAt v n (now points)) k (now work) × (c < k) ⌝ }
+    ensures { λ r. ⌜ r ≡ rootBox v n (now (points .entry)) c ⌝ }
+{
+    let first = counting_tree::points::frame_at(points, v.channels, lists::word(work, n + c));
+    let side = counting_tree::grid::base_side(v.tolerance, v.channels);
+    counting_tree::boxes::box_of(first, side, v.channels)
+}
+
 // Whether frame q has a non-zero count in the tree of cell c. A core frame of the cell nearer than the tolerance gives one,
-// and none does where all are out of reach: the tree is asked only where the frames looked at leave it open.
-pub fn reaches(
+// and none does where all are out of reach. What the whole numbers leave open the frames' own paths tell, or the tree where it is built.
+fn reaches_frames(
     points: &[i16],
     v: ValidParams,
     n: usize,
@@ -229,22 +282,46 @@ pub fn reaches(
     requires { ⌜ Ready (now points) v n × Grown (geometryAt v n (now points)) k (now work) × (q < n) × (c < k) ⌝ }
     ensures { λ r. ⌜ r ≡ nonzero (count (geometryAt v n (now (points .entry))) q (cellAt (geometryAt v n (now (points .entry))) c)) ⌝ }
 {
-    if !has_tree(work, n, c) {
-        return false;
-    }
     let from = lists::word(work, STARTS * n + c);
     let end = cells_grid::cell_end(work, n, k, c);
-    let to = looked_to(from, end);
     counting_tree::points::read_frame(points, v, n, q);
-    read_frames(points, v, n, work, from, to);
-    let least = least_square(points, v, n, work, q, from, to);
+    read_frames(points, v, n, work, from, end);
+    let least = least_square(points, v, n, work, q, from, end);
     if least < v.t * v.t {
         return true;
     }
-    if to == end {
-        if out_of_reach(v.t, v.s, least) {
-            return false;
-        }
+    if out_of_reach(v.t, v.s, least) {
+        return false;
+    }
+    if lists::word(work, TREES * n + c) <= 1 {
+        return some_reaches(points, v, n, work, q, from, end);
     }
     tree_count(points, v, n, k, work, q, c).count != 0
+}
+
+// Whether frame q has a non-zero count in the tree of cell c, whose root box is `root`: all core frames of the cell share that box,
+// so the frames are asked only where it settles nothing.
+pub fn reaches(
+    points: &[i16],
+    v: ValidParams,
+    n: usize,
+    k: usize,
+    work: &[Word],
+    q: usize,
+    c: usize,
+    root: Box,
+) -> bool
+    requires { ⌜ Ready (now points) v n × Grown (geometryAt v n (now points)) k (now work) × (q < n) × (c < k) × (root ≡ rootBox v n (now points) c) ⌝ }
+    ensures { λ r. ⌜ r ≡ nonzero (count (geometryAt v n (now (points .entry))) q (cellAt (geometryAt v n (now (points .entry))) c)) ⌝ }
+{
+    if !is_core_cell(work, n, c) {
+        return false;
+    }
+    counting_tree::points::read_frame(points, v, n, q);
+    counting_tree::points::read_frame(points, v, n, lists::word(work, n + c));
+    match counting_tree::points::settled(points, v, n, q, root) {
+        IntersectionType::Disjoint => false,
+        IntersectionType::FullyCovered => true,
+        IntersectionType::Intersecting => reaches_frames(points, v, n, k, work, q, c),
+    }
 }

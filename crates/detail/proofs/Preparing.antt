@@ -64,8 +64,8 @@ module _ {ps : List ℤ} {v : ValidParams} {n : ℕ} (r : Ready ps v n) (w : Lis
       pub clear₂ : Clear w₂ (10 * n) (3 * n)
       clear₂ = clear-within w₂ (10 * n) (6 * n) (10 * n) (3 * n) (within-clear within₂ (10 * n) (6 * n) (omega arith) clear₀) (omega arith) (omega arith)
 
-      pub prepared₃ : {w₃ : List ℕ} → w₃ ≡ over (over w₂ (5 * n) (column (treeWord g) k)) (16 * n) (forestTo g k) → 16 * n ≤ length w₃ → Prepared ps v n k w₃
-      prepared₃ e₃ h₃ = record { ready = r; grown = rw e₃ (grown cored₂ f (omega (arith, h₀, within₂ .size))); few = words-count g (ready-lawful r) (cored₂ .cells) n f; room = h₃ }
+      pub prepared₃ : {w₃ : List ℕ} → w₃ ≡ over (over w₂ (5 * n) (column (treeWord g 0) k)) (16 * n) (forestTo g 0 k) → 16 * n ≤ length w₃ → Prepared ps v n k w₃
+      prepared₃ e₃ h₃ = record { ready = r; grown = rw e₃ (grown cored₂ f (omega (arith, h₀, within₂ .size)) 0); few = words-count g (ready-lawful r) (cored₂ .cells) n f; room = h₃ }
 
 module _ {ps : List ℤ} {v : ValidParams} {n k : ℕ} {w : List ℕ} (p : Prepared ps v n k w) where
   -- the same by the number of cells

@@ -17,7 +17,7 @@ ghost use Rattle.hyperparams.specs.Params.{workWords};
 ghost use Rattle.counting_tree.specs.Ready.{Ready};
 ghost use Rattle.detail.specs.Prepared.{Prepared};
 
-// Where regions of the work words begin, in multiples of the number of frames: one more than the number of the first node of each cell's tree,
+// Where regions of the work words begin, in multiples of the number of frames: two more than the number of the first node of each cell's tree,
 // what the phases need to be 0 (six regions), the nodes.
 const TREES: usize = 5;
 
@@ -208,10 +208,10 @@ fn show_nodes(work: &[Word], nodes: usize, root: usize, end: usize)
 fn show_tree(work: &[Word], n: usize, c: usize)
     requires { ⌜ (n ≤ 4096) × (5 * n + c < length (now work)) ⌝ }
 {
-    if core_cells::has_tree(work, n, c) {
+    if core_cells::is_core_cell(work, n, c) {
         let begin = word(work, TREES * n + c);
-        if begin > 0 {
-            let root = begin - 1;
+        if begin > 1 {
+            let root = begin - 2;
             let nodes = NODES * n;
             let size = word(work, nodes + 4 * root + 1);
             show_nodes(work, nodes, root, root + size);
@@ -258,9 +258,11 @@ fn show_counted(points: &[i16], v: ValidParams, n: usize, k: usize, work: &[Word
     requires { ⌜ Prepared (now points) v n k (now work) × (i < n) ⌝ }
 {
     for c in 0..k {
-        let counted = core_cells::tree_count(points, v, n, k, work, i, c);
-        if counted.count > 0 {
-            put_item(c);
+        if lists::word(work, TREES * n + c) > 1 {
+            let counted = core_cells::tree_count(points, v, n, k, work, i, c);
+            if counted.count > 0 {
+                put_item(c);
+            }
         }
     }
 }
@@ -293,7 +295,7 @@ fn show_all(points: &[i16], v: ValidParams, n: usize, k: usize, work: &[Word])
     }
 }
 
-// Finds the cells and their core frames, and builds the trees. Returns the number of cells.
+// Finds the cells and their core frames, and builds the tree of every core cell. Returns the number of cells.
 fn prepare(points: &[i16], v: ValidParams, n: usize, work: &mut [Word]) -> usize
     requires { ⌜ Ready (now points) v n × (workWords n (v .s) ≤ length (now work)) ⌝ }
     ensures { λ r. ⌜ Prepared (now (points .entry)) v n r (now (work .exit)) ⌝ }
@@ -301,7 +303,7 @@ fn prepare(points: &[i16], v: ValidParams, n: usize, work: &mut [Word]) -> usize
     lists::clear_words(work, CLEAR * n, 6 * n);
     let k = cells_grid::populate(points, v, n, work);
     cells_grid::label_points(points, v, n, k, work);
-    core_cells::build_trees(points, v, n, k, work);
+    core_cells::build_trees(points, v, n, k, work, 0);
     k
 }
 

@@ -1,9 +1,10 @@
 -- `build_tree` meets its contract: `Gathered` is what holds once the core frames are gathered.
+use mathlib.Core.Path.{ap, _∙_}
 use native.Mathlib.Omega.{arith}
-use lib.ListN.{length-set}
+use lib.ListN.{length, length-set}
 use borrow.Author.Needs.{needs}
 use Rattle.counting_tree.specs.Ready.{geometryAt}
-use Rattle.core_cells.proofs.Building.{Ripe, Gathered, ripe, cells-few, can-gather, gathered, gathered-length, none-next, none-work}
+use Rattle.core_cells.proofs.Building.{Ripe, Gathered, ripe, cells-few, can-gather, gathered, gathered-length, emptied, small-next, none-work, small-work}
 use Rattle.core_cells.proofs.Building.{can-build, word-low, some-next, built-length, cleared-length, some-work}
 use Rattle.core_cells.proofs.build_tree.Statement.{statement}
 use Rattle.core_cells.proofs.build_tree.Tie as tie
@@ -23,10 +24,10 @@ ripe-at : (c : lts.Start (
   cell-end-reads.Learnt,
   gather-core-reads.Asked,
   gather-core-reads.Learnt,
-  build-structure-reads.Asked,
-  build-structure-reads.Learnt,
   clear-words-reads.Asked,
   clear-words-reads.Learnt,
+  build-structure-reads.Asked,
+  build-structure-reads.Learnt,
 ) reads.Pre reads.Post) → Ripe (geometryAt (c .args .v) (c .args .n) (c .args .points .now)) (c .args .n) (c .args .k) (c .args .work .now)
 ripe-at c = ripe (c .pre .0 .0) (c .pre .0 .1) (c .pre .1 .1)
 
@@ -38,13 +39,13 @@ gathered-at : (c : lts.After-gather-core (
   cell-end-reads.Learnt,
   gather-core-reads.Asked,
   gather-core-reads.Learnt,
-  build-structure-reads.Asked,
-  build-structure-reads.Learnt,
   clear-words-reads.Asked,
   clear-words-reads.Learnt,
+  build-structure-reads.Asked,
+  build-structure-reads.Learnt,
 ) reads.Pre reads.Post) →
     let s = c .before .before .before .before .before .before .before in
-    Gathered (geometryAt (s .args .v) (s .args .n) (s .args .points .now)) (s .args .n) (s .args .k) (s .args .work .now) (s .args .c) (s .args .at) (c .gather-core .result) (c .gather-core .last .0)
+    Gathered (geometryAt (s .args .v) (s .args .n) (s .args .points .now)) (s .args .n) (s .args .k) (s .args .work .now) (s .args .few) (s .args .c) (s .args .at) (c .gather-core .result) (c .gather-core .last .0)
 gathered-at c =
     let s = c .before .before .before .before .before .before .before in
     let e = c .gather-core .ensures in
@@ -100,12 +101,37 @@ same-length c = search needs
 returns : tie.Need-returns
 returns c =
     let g = gathered-at (c .before .before .before) in
-    (none-next g (c .if1 .taken), none-work g (c .if1 .taken))
+    (small-next g (omega (arith, c .if1 .taken)), none-work g (omega (arith, c .if1 .taken)) (c .if1 .taken))
+
+clear-words-requires : tie.Need-clear-words-requires
+clear-words-requires c κs =
+    let g = gathered-at (c .before .before .before .before .before) in
+    omega (arith, g .ripe .room, g .most, gathered-length g)
+
+mul-work-2 : tie.Need-mul-work-2
+mul-work-2 c =
+    let g = gathered-at (c .before .before .before .before .before .before .before .before) in
+    omega (arith, cells-few (g .ripe), g .ripe .few, g .inside)
+
+slice-write-work-2 : tie.Need-slice-write-work-2
+slice-write-work-2 c =
+    let g = gathered-at (c .before .before .before .before .before .before .before .before) in
+    omega (arith, cells-few (g .ripe), g .ripe .room, g .inside, ap length (c .before .before .clear-words .ensures ∙ emptied g))
+
+same-length-2 : tie.Need-same-length-2
+same-length-2 c =
+    let g = gathered-at (c .before .before .before .before .before .before .before .before) in
+    simp length-set (ap length (c .before .before .clear-words .ensures ∙ emptied g))
+
+returns-2 : tie.Need-returns-2
+returns-2 c =
+    let g = gathered-at (c .before .before .before .before .before .before .before .before) in
+    (small-next g (c .before .before .before .before .if2 .taken), small-work g (c .before .before .before .before .if2 .taken) (c .before .before .before .before .before .if1 .left) (c .before .before .clear-words .ensures))
 
 add-hi : tie.Need-add-hi
 add-hi c =
-    let g = gathered-at (c .before .before .before) in
-    omega (arith, g .ripe .few, g .few)
+    let g = gathered-at (c .before .before .before .before) in
+    omega (arith, g .ripe .few, g .most)
 
 mul-copy : tie.Need-mul-copy
 mul-copy c = search needs
@@ -115,19 +141,17 @@ mul-scratch c = search needs
 
 build-structure-requires : tie.Need-build-structure-requires
 build-structure-requires c κs =
-    let g = gathered-at (c .before .before .before .before) in
-    let some = c .before .if1 .left in
-    (c .before .before .before .before .before .before .before .before .before .before .before .pre .0 .0, can-build g some)
+    let g = gathered-at (c .before .before .before .before .before) in
+    (c .before .before .before .before .before .before .before .before .before .before .before .before .pre .0 .0, can-build g (c .before .if2 .left))
 
-clear-words-requires : tie.Need-clear-words-requires
-clear-words-requires c κs =
-    let g = gathered-at (c .before .before .before .before .before .before .before .before) in
-    let some = c .before .before .before .before .before .if1 .left in
+clear-words-requires-2 : tie.Need-clear-words-requires-2
+clear-words-requires-2 c κs =
+    let g = gathered-at (c .before .before .before .before .before .before .before .before .before) in
     let b = c .before .before .before .build-structure .ensures in
-    omega (arith, g .ripe .room, g .few, built-length g some (b .0) (b .1))
+    omega (arith, g .ripe .room, g .most, built-length g (c .before .before .before .before .before .if2 .left) (b .0) (b .1))
 
-mul-work-2 : tie.Need-mul-work-2
-mul-work-2 c = search needs
+mul-work-3 : tie.Need-mul-work-3
+mul-work-3 c = search needs
 
 sub-work : tie.Need-sub-work
 sub-work c = search needs
@@ -137,35 +161,31 @@ add-work c = search needs
 
 cast-work : tie.Need-cast-work
 cast-work c =
-    let g = gathered-at (c .before .before .before .before .before .before .before .before .before .before .before) in
-    let some = c .before .before .before .before .before .before .before .before .if1 .left in
-    omega (arith, word-low g some)
+    let g = gathered-at (c .before .before .before .before .before .before .before .before .before .before .before .before) in
+    omega (arith, word-low g (c .before .before .before .before .before .before .before .before .if2 .left))
 
-mul-work-3 : tie.Need-mul-work-3
-mul-work-3 c =
-    let g = gathered-at (c .before .before .before .before .before .before .before .before .before .before .before) in
+mul-work-4 : tie.Need-mul-work-4
+mul-work-4 c =
+    let g = gathered-at (c .before .before .before .before .before .before .before .before .before .before .before .before) in
     omega (arith, cells-few (g .ripe), g .ripe .few, g .inside)
 
-slice-write-work-2 : tie.Need-slice-write-work-2
-slice-write-work-2 c =
-    let g = gathered-at (c .before .before .before .before .before .before .before .before .before .before .before) in
-    let some = c .before .before .before .before .before .before .before .before .if1 .left in
+slice-write-work-3 : tie.Need-slice-write-work-3
+slice-write-work-3 c =
+    let g = gathered-at (c .before .before .before .before .before .before .before .before .before .before .before .before) in
     let b = c .before .before .before .before .before .before .build-structure .ensures in
-    omega (arith, cells-few (g .ripe), g .ripe .room, g .inside, cleared-length g some (b .0) (b .1) (c .before .before .clear-words .ensures))
+    omega (arith, cells-few (g .ripe), g .ripe .room, g .inside, cleared-length g (c .before .before .before .before .before .before .before .before .if2 .left) (b .0) (b .1) (c .before .before .clear-words2 .ensures))
 
-same-length-2 : tie.Need-same-length-2
-same-length-2 c =
-    let g = gathered-at (c .before .before .before .before .before .before .before .before .before .before .before) in
-    let some = c .before .before .before .before .before .before .before .before .if1 .left in
+same-length-3 : tie.Need-same-length-3
+same-length-3 c =
+    let g = gathered-at (c .before .before .before .before .before .before .before .before .before .before .before .before) in
     let b = c .before .before .before .before .before .before .build-structure .ensures in
-    simp length-set (cleared-length g some (b .0) (b .1) (c .before .before .clear-words .ensures))
+    simp length-set (cleared-length g (c .before .before .before .before .before .before .before .before .if2 .left) (b .0) (b .1) (c .before .before .clear-words2 .ensures))
 
-returns-2 : tie.Need-returns-2
-returns-2 c =
-    let g = gathered-at (c .before .before .before .before .before .before .before .before .before .before .before) in
-    let some = c .before .before .before .before .before .before .before .before .if1 .left in
+returns-3 : tie.Need-returns-3
+returns-3 c =
+    let g = gathered-at (c .before .before .before .before .before .before .before .before .before .before .before .before) in
     let b = c .before .before .before .before .before .before .build-structure .ensures in
-    (some-next g some (b .0) (b .1), some-work g some (b .0) (b .1) (c .before .before .clear-words .ensures))
+    (some-next g (c .before .before .before .before .before .before .before .before .if2 .left) (b .0) (b .1), some-work g (c .before .before .before .before .before .before .before .before .if2 .left) (b .0) (b .1) (c .before .before .clear-words2 .ensures))
 
 pub build-tree-spec : {M : Type 1} → statement M
 build-tree-spec =
@@ -183,16 +203,21 @@ build-tree-spec =
     slice-write-work
     same-length
     returns
+    clear-words-requires
+    mul-work-2
+    slice-write-work-2
+    same-length-2
+    returns-2
     add-hi
     mul-copy
     mul-scratch
     build-structure-requires
-    clear-words-requires
-    mul-work-2
+    clear-words-requires-2
+    mul-work-3
     sub-work
     add-work
     cast-work
-    mul-work-3
-    slice-write-work-2
-    same-length-2
-    returns-2)
+    mul-work-4
+    slice-write-work-3
+    same-length-3
+    returns-3)

@@ -8,10 +8,10 @@ use Rattle.core_cells.proofs.build_trees.Statement.{statement}
 use Rattle.core_cells.proofs.build_trees.Tie as tie
 
 abbrev Inv-loop : tie.InvT-loop
-Inv-loop points v n k work₀ at₀ c₀ work at c = Growing (geometryAt v n points) n k work₀ work at c
+Inv-loop points v n k work₀ few at₀ c₀ work at c = Growing (geometryAt v n points) n k few work₀ work at c
 
 abbrev μ-loop : tie.MeasureT-loop
-μ-loop points v n k work₀ at₀ c₀ work at c = k - c
+μ-loop points v n k work₀ few at₀ c₀ work at c = k - c
 
 mul-at : tie.Need-mul-at Inv-loop μ-loop
 mul-at c = omega (arith, c .before .pre .0 .0 .few)

@@ -14,6 +14,15 @@ abbrev μ-loop : tie.MeasureT-loop
 loop-holds : tie.Need-loop-holds Inv-loop μ-loop
 loop-holds c = tt
 
+mul-word : tie.Need-mul-word Inv-loop μ-loop
+mul-word c = omega (arith, c .before .before .before .pre .0 .ready .few)
+
+add-word : tie.Need-add-word Inv-loop μ-loop
+add-word c = omega (arith, c .before .before .before .pre .0 .ready .few, c .before .before .before .pre .0 .few)
+
+word-requires : tie.Need-word-requires Inv-loop μ-loop
+word-requires c κs = omega (arith, c .before .before .before .pre .0 .few, c .before .before .before .pre .0 .room)
+
 tree-count-requires : tie.Need-tree-count-requires Inv-loop μ-loop
 tree-count-requires c κs = search needs
 
@@ -39,6 +48,9 @@ show-counted-spec =
     Inv-loop
     μ-loop
     loop-holds
+    mul-word
+    add-word
+    word-requires
     tree-count-requires
     put-item-requires
     add-c

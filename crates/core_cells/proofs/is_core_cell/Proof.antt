@@ -1,10 +1,10 @@
--- `has_tree` meets its contract.
+-- `is_core_cell` meets its contract.
 use mathlib.Core.Path.{ap, _∙_}
 use borrow.Author.Needs.{needs}
 use Rattle.lists.specs.Lists.{nonzero}
 use Rattle.lists.specs.ListLaws.{nonzero-eqb}
-use Rattle.core_cells.proofs.has_tree.Statement.{statement}
-use Rattle.core_cells.proofs.has_tree.Tie as tie
+use Rattle.core_cells.proofs.is_core_cell.Statement.{statement}
+use Rattle.core_cells.proofs.is_core_cell.Tie as tie
 
 mul-word : tie.Need-mul-word
 mul-word c = search needs
@@ -18,5 +18,5 @@ word-requires c κs = search needs
 returns : tie.Need-returns
 returns c = nonzero-eqb (c .word .result) ∙ ap nonzero (c .word .ensures)
 
-pub has-tree-spec : {M : Type 1} → statement M
-has-tree-spec = tie.close (tie.spec mul-word add-word word-requires returns)
+pub is-core-cell-spec : {M : Type 1} → statement M
+is-core-cell-spec = tie.close (tie.spec mul-word add-word word-requires returns)
