@@ -1,18 +1,19 @@
 -- Cells taken with the cells of their lists: the pairs that are still to be met, and the leaders' words so far.
 use mathlib.Core.Path.{_≡_, refl, sym, ap, ap₂, _∙_, subst}
 use mathlib.Core.Logic.{inl}
-use mathlib.Core.Bool.{Bool, true, false}
+use mathlib.Core.Bool.{Bool, true, false, not}
 use mathlib.Core.List.{List, [], _∷_, _++_}
-use Prim.Native.Nat.{ℕ, _+_, _*_, _<_, _≤_}
+use Prim.Native.Nat.{ℕ, _+_, _-_, _*_, _<_, _≤_}
 use native.Mathlib.Omega.{arith}
 use native.Mathlib.Numerals.{add-one}
-use lib.Dec.{T}
+use lib.Dec.{T, eqb}
 use lib.IntN.{ℤ}
 use lib.ListN.{length, drop, getD, replicate, drop-of-length-le}
 use lib.Seq.{drop-cons}
+use borrow.Rule.Slice.PartMut.{putMid}
 use Rattle.lists.specs.Lists.{numbers, In, nonzero}
 use Rattle.lists.specs.Words.{over, part, rest, Clear}
-use Rattle.lists.specs.ListLaws.{true-T, at-in}
+use Rattle.lists.specs.ListLaws.{true-T, at-in, keep-same}
 use Rattle.lists.specs.WordLaws.{over-self, over-again, over-length, over-apart}
 use Rattle.lists.specs.PartLaws.{part-length, part-same, part-under, part-above, part-at, clear-after}
 use Rattle.lists.specs.LoopLaws.{rest-start, rest-step, rest-end}
@@ -21,18 +22,20 @@ use Rattle.counting_tree.specs.Geometry.{Geometry}
 use Rattle.counting_tree.specs.Ready.{geometryAt, Ready}
 use Rattle.cells_grid.specs.Cells.{cells, coreCell}
 use Rattle.cells_grid.specs.Arrangement.{cellAt, Arranged}
-use Rattle.cells_grid.specs.Listing.{listOf, Hashed}
-use Rattle.cells_grid.specs.ListingLaws.{list-sound, list-length, list-cleared, hashed-over}
+use Rattle.cells_grid.specs.Listing.{unmarked, listOf, Hashed}
+use Rattle.cells_grid.specs.ListingLaws.{in-unmarked, list-sound, unmarked-length, unmarked-cleared, hashed-over}
 use Rattle.core_cells.specs.Forest.{Grown}
 use Rattle.core_cells.specs.ForestLaws.{grown-over}
-use Rattle.partitions.specs.Leaders.{Falling, root}
-use Rattle.partitions.specs.LeaderLaws.{Stands, own-stands}
+use Rattle.partitions.specs.Leaders.{Falling, root, shorten}
+use Rattle.partitions.specs.LeaderLaws.{Stands, own-stands, shorten-stands, shorten-leads}
+use Rattle.partitions.specs.Trials.{byLowest}
 use Rattle.partitions.specs.TrialLaws.{Within}
 use Rattle.clustering.specs.Uniting.{pairAt, onePair, pairsWith, touchAt}
 use Rattle.clustering.specs.UnitingLaws.{parts-pair, with-more, with-none, with-within, one-within}
-use Rattle.clustering.specs.UniteAll.{meetAll, byOwnLeaders, pairsBy}
+use Rattle.clustering.specs.UniteAll.{meetAll, byOwnLeaders, unlike, meetLists}
 use Rattle.clustering.specs.UniteAllLaws.{meet-append, all-stand}
 use Rattle.clustering.proofs.Held.{frames, few-cells, cell-count, is-cell, tree-held}
+use Rattle.clustering.proofs.Lent.{lent, lent-length, back}
 
 -- what pairs leave of the leaders p
 abbrev left : Geometry → List (ℕ × ℕ) → List ℕ → List ℕ
@@ -67,126 +70,126 @@ module _ {g : Geometry} {n k : ℕ} {w₀ w : List ℕ} (i : Leading g n k w₀ 
   leaders-stand : Stands k (root (part w (6 * n) k)) (part w (6 * n) k)
   leaders-stand = subst (λ (m : ℕ). Stands m (root (part w (6 * n) k)) (part w (6 * n) k)) lead-length (own-stands (i .falling))
 
-  -- pairs of cells below k are met
-  module _ (ps : List (ℕ × ℕ)) (within : Within k ps) {v : List ℕ} (e : v ≡ over w (6 * n) (left g ps (part w (6 * n) k))) where
-    abbrev q : List ℕ
-    q = left g ps (part w (6 * n) k)
-
-    falls : Falling q
-    falls = all-stand (touchAt g) k ps within leaders-stand .falling
-
-    lead-still : length q ≡ k
-    lead-still = all-stand (touchAt g) k ps within leaders-stand .size
-
+  -- leaders of the same cells are written
+  module _ {l : ℕ → ℕ} {q : List ℕ} (s : Stands k l q) {v : List ℕ} (e : v ≡ over w (6 * n) q) where
     leaders-now : part v (6 * n) k ≡ q
-    leaders-now = ap (λ (z : List ℕ). part z (6 * n) k) e ∙ part-same w (6 * n) k q (omega (arith, i .room, i .size)) lead-still
+    leaders-now = ap (λ (z : List ℕ). part z (6 * n) k) e ∙ part-same w (6 * n) k q (omega (arith, i .room, i .size)) (s .size)
 
     leading-on : Leading g n k w₀ v
     leading-on = record {
       frames = i .frames;
       few = i .few;
       room = i .room;
-      size = ap length e ∙ over-length w (6 * n) q (omega (arith, lead-still, i .few, i .room, i .size)) ∙ i .size;
-      grown = subst (Grown g k) (sym e) (grown-over (i .grown) (i .frames) (6 * n) q (omega arith) (omega (arith, lead-still, i .few)) (omega (arith, i .room, i .size)));
-      falling = subst Falling (sym leaders-now) falls;
+      size = ap length e ∙ over-length w (6 * n) q (omega (arith, s .size, i .few, i .room, i .size)) ∙ i .size;
+      grown = subst (Grown g k) (sym e) (grown-over (i .grown) (i .frames) (6 * n) q (omega arith) (omega (arith, s .size, i .few)) (omega (arith, i .room, i .size)));
+      falling = subst Falling (sym leaders-now) (s .falling);
       still = e
           ∙ ap (λ (z : List ℕ). over z (6 * n) q) (i .still)
-          ∙ over-again w₀ (6 * n) (part w (6 * n) k) q (omega (arith, i .room)) (lead-still ∙ sym lead-length)
+          ∙ over-again w₀ (6 * n) (part w (6 * n) k) q (omega (arith, i .room)) (s .size ∙ sym lead-length)
           ∙ ap (over w₀ (6 * n)) (sym leaders-now);
     }
 
--- ---- cell c with the m cells ds of its list, from the j-th on
-pub record Listing (g : Geometry) (n k : ℕ) (w₀ w : List ℕ) (c m : ℕ) (ds : List ℕ) (j : ℕ) : Type 0 where
+  -- what pairs of cells below k leave are such
+  pairs-stand : (ps : List (ℕ × ℕ)) → Within k ps → Stands k (meetAll byLowest (touchAt g) ps (root (part w (6 * n) k))) (left g ps (part w (6 * n) k))
+  pairs-stand ps within = all-stand (touchAt g) k ps within leaders-stand
+
+-- ---- cell c with the m cells from 15n on, of which the first j are met
+pub record Listing (g : Geometry) (n k : ℕ) (w₀ w : List ℕ) (c m j : ℕ) : Type 0 where
   pub leading : Leading g n k w₀ w
   pub cell : c < k
-  pub count : m ≡ length ds
   pub few : m ≤ n
-  pub each : (d : ℕ) → In d ds → (d < k) × T (pairAt g c d)
-  pub list : part w₀ (15 * n) m ≡ ds
+  pub each : (d : ℕ) → In d (part w₀ (15 * n) m) → (d < k) × T (pairAt g c d)
   pub high : j ≤ m
-  pub goes : left g (pairsWith g c ds) (part w₀ (6 * n) k) ≡ left g (pairsWith g c (drop j ds)) (part w (6 * n) k)
+  pub goes : left g (pairsWith g c (part w₀ (15 * n) m)) (part w₀ (6 * n) k) ≡ left g (pairsWith g c (drop j (part w₀ (15 * n) m))) (part w (6 * n) k)
 
-module _ {ps : List ℤ} {v : ValidParams} {n : ℕ} (r : Ready ps v n) {k : ℕ} {w : List ℕ} (gr : Grown (geometryAt v n ps) k w) where
-  list-below : (c d : ℕ) → c < k → In d (listOf v n ps c) → d < k
-  list-below c d h i = omega (arith, list-sound r c (is-cell r gr c h) d i .0, cell-count r gr)
+pub listing-start : {ps : List ℤ} {v : ValidParams} {n : ℕ} (r : Ready ps v n) {k : ℕ} {w : List ℕ} (gr : Grown (geometryAt v n ps) k w) {c m : ℕ} → c < k → m ≤ n
+    → 16 * n ≤ length w → Falling (part w (6 * n) k) → ((d : ℕ) → In d (part w (15 * n) m) → (d < k) × T (pairAt (geometryAt v n ps) c d))
+    → Listing (geometryAt v n ps) n k w w c m 0
+listing-start r gr h b l f e = record {
+  leading = leading-start r gr l f;
+  cell = h;
+  few = b;
+  each = e;
+  high = omega arith;
+  goes = refl;
+}
 
-  -- a core cell makes a pair with each cell of its list
-  list-pair : (c d : ℕ) → c < k → T (coreCell (geometryAt v n ps) (cellAt (geometryAt v n ps) c)) → In d (listOf v n ps c) → T (pairAt (geometryAt v n ps) c d)
-  list-pair c d h t i = let z = list-sound r c (is-cell r gr c h) d i in parts-pair (geometryAt v n ps) c d t (z .1) (z .2)
+module _ {g : Geometry} {n k : ℕ} {w₀ w : List ℕ} {c m j : ℕ} (i : Listing g n k w₀ w c m j) where
+  abbrev given : List ℕ
+  given = part w₀ (15 * n) m
 
-  pub listing-start : (c m : ℕ) → c < k → T (coreCell (geometryAt v n ps) (cellAt (geometryAt v n ps) c)) → 16 * n ≤ length w → Falling (part w (6 * n) k) → m ≡ length (listOf v n ps c) → part w (15 * n) m ≡ listOf v n ps c
-      → Listing (geometryAt v n ps) n k w w c m (listOf v n ps c) 0
-  listing-start c m h t l f e q = record {
-    leading = leading-start r gr l f;
-    cell = h;
-    count = e;
-    few = omega (arith, list-length r c (is-cell r gr c h), few-cells r gr, cell-count r gr);
-    each = λ d j. (list-below c d h j, list-pair c d h t j);
-    list = q;
-    high = omega arith;
-    goes = refl;
-  }
+  count : length given ≡ m
+  count = part-length w₀ (15 * n) m (omega (arith, i .few, i .leading .room))
 
-module _ {g : Geometry} {n k : ℕ} {w₀ w : List ℕ} {c m : ℕ} {ds : List ℕ} {j : ℕ} (i : Listing g n k w₀ w c m ds j) where
   module _ (h : j < m) {d : ℕ} (e : d ≡ getD w (15 * n + j) 0) where
-    next : d ≡ getD ds j 0
+    next : d ≡ getD given j 0
     next =
         let L = i .leading in
         e
         ∙ sym (part-at w (15 * n) m j h)
         ∙ ap (λ (z : List ℕ). getD z j 0) (ap (λ (z : List ℕ). part z (15 * n) m) (L .still)
-        ∙ part-above w₀ (15 * n) m (6 * n) (part w (6 * n) k) (omega (arith, lead-length L, L .few)) (omega (arith, L .room))
-        ∙ i .list)
+        ∙ part-above w₀ (15 * n) m (6 * n) (part w (6 * n) k) (omega (arith, lead-length L, L .few)) (omega (arith, L .room)))
 
     pub next-each : (d < k) × T (pairAt g c d)
-    next-each = i .each d (subst (λ (x : ℕ). In x ds) (sym next) (at-in 0 ds j (omega (arith, i .count))))
+    next-each = i .each d (subst (λ (x : ℕ). In x given) (sym next) (at-in 0 given j (omega (arith, count))))
 
-    split : pairsWith g c (drop j ds) ≡ onePair g c d ++ pairsWith g c (drop (j + 1) ds)
+    split : pairsWith g c (drop j given) ≡ onePair g c d ++ pairsWith g c (drop (j + 1) given)
     split =
-        let l : j < length ds = omega (arith, i .count) in
-        ap (pairsWith g c) (drop-cons ds j 0 l ∙ ap₂ (λ (x m : ℕ). x ∷ drop m ds) (sym next) (sym (add-one j)))
-        ∙ with-more g c d (drop (j + 1) ds)
+        let l : j < length given = omega (arith, count) in
+        ap (pairsWith g c) (drop-cons given j 0 l ∙ ap₂ (λ (x m : ℕ). x ∷ drop m given) (sym next) (sym (add-one j)))
+        ∙ with-more g c d (drop (j + 1) given)
 
-    pub listing-on : {v : List ℕ} → v ≡ over w (6 * n) (left g (onePair g c d) (part w (6 * n) k)) → Listing g n k w₀ v c m ds (j + 1)
+    pub listing-on : {v : List ℕ} → v ≡ over w (6 * n) (left g (onePair g c d) (part w (6 * n) k)) → Listing g n k w₀ v c m (j + 1)
     listing-on {v} f =
         let L = i .leading in
-        let within = one-within g c d (i .cell) (next-each .0) in
+        let s = pairs-stand L (onePair g c d) (one-within g c d (i .cell) (next-each .0)) in
         record {
-          leading = leading-on L (onePair g c d) within f;
+          leading = leading-on L s f;
           cell = i .cell;
-          count = i .count;
           few = i .few;
           each = i .each;
-          list = i .list;
           high = omega arith;
           goes = i .goes
               ∙ ap (λ (ps : List (ℕ × ℕ)). left g ps (part w (6 * n) k)) split
-              ∙ meet-append byOwnLeaders (touchAt g) (onePair g c d) (pairsWith g c (drop (j + 1) ds)) (part w (6 * n) k)
-              ∙ ap (left g (pairsWith g c (drop (j + 1) ds))) (sym (leaders-now L (onePair g c d) within f));
+              ∙ meet-append byOwnLeaders (touchAt g) (onePair g c d) (pairsWith g c (drop (j + 1) given)) (part w (6 * n) k)
+              ∙ ap (left g (pairsWith g c (drop (j + 1) given))) (sym (leaders-now L s f));
         }
 
-  pub listing-end : m ≤ j → w ≡ over w₀ (6 * n) (left g (pairsWith g c ds) (part w₀ (6 * n) k))
+  pub listing-end : m ≤ j → w ≡ over w₀ (6 * n) (left g (pairsWith g c (part w₀ (15 * n) m)) (part w₀ (6 * n) k))
   unfolding pairsWith meetAll
   listing-end h =
-      let e : drop j ds ≡ [] = drop-of-length-le ds {i = j} (omega (arith, i .count)) in
+      let e : drop j given ≡ [] = drop-of-length-le given {i = j} (omega (arith, count)) in
       i .leading .still ∙ ap (over w₀ (6 * n)) (sym (i .goes ∙ ap (λ (xs : List ℕ). left g (pairsWith g c xs) (part w (6 * n) k)) e))
 
--- ---- the cells from c on, each with the cells of its list
+-- ---- the cells from c on, each with the cells of its list that have another leader
+-- what the cells cs leave of the leaders p
+abbrev leftBy : (v : ValidParams) (n : ℕ) (ps : List ℤ) → List ℕ → List ℕ → List ℕ
+leftBy v n ps = meetLists (geometryAt v n ps) (touchAt (geometryAt v n ps)) (listOf v n ps)
+
+-- the pairs of c that are met from the leaders p, once its own is looked for
+abbrev rowOf : (v : ValidParams) (n : ℕ) (ps : List ℤ) → ℕ → List ℕ → List (ℕ × ℕ)
+rowOf v n ps c p = pairsWith (geometryAt v n ps) c (unlike p c (listOf v n ps c))
+
 pub record Rows (v : ValidParams) (n : ℕ) (ps : List ℤ) (k : ℕ) (w₀ w : List ℕ) (c : ℕ) : Type 0 where
   pub leading : Leading (geometryAt v n ps) n k w₀ w
   pub hashed : Hashed v n ps w
   pub clear : Clear w (15 * n) n
   pub high : c ≤ k
-  pub goes : left (geometryAt v n ps) (pairsBy (geometryAt v n ps) (listOf v n ps) (numbers k)) (part w₀ (6 * n) k)
-      ≡ left (geometryAt v n ps) (pairsBy (geometryAt v n ps) (listOf v n ps) (rest k c)) (part w (6 * n) k)
+  pub goes : leftBy v n ps (numbers k) (part w₀ (6 * n) k) ≡ leftBy v n ps (rest k c) (part w (6 * n) k)
+
+-- and with c's leader x looked for
+pub record Found (v : ValidParams) (n : ℕ) (ps : List ℤ) (k : ℕ) (w₀ w : List ℕ) (c x : ℕ) : Type 0 where
+  pub leading : Leading (geometryAt v n ps) n k w₀ w
+  pub hashed : Hashed v n ps w
+  pub clear : Clear w (15 * n) n
+  pub cell : c < k
+  pub leads : x ≡ getD (part w (6 * n) k) c 0
+  pub goes : leftBy v n ps (numbers k) (part w₀ (6 * n) k)
+      ≡ leftBy v n ps (rest k (c + 1)) (left (geometryAt v n ps) (rowOf v n ps c (part w (6 * n) k)) (part w (6 * n) k))
 
 module _ {ps : List ℤ} {v : ValidParams} {n : ℕ} (r : Ready ps v n) {k : ℕ} {w₀ : List ℕ} (gr : Grown (geometryAt v n ps) k w₀) where
   abbrev g : Geometry
   g = geometryAt v n ps
-
-  -- the pairs of the cells from c on
-  abbrev from : ℕ → List (ℕ × ℕ)
-  from c = pairsBy g (listOf v n ps) (rest k c)
 
   pub rows-start : Hashed v n ps w₀ → 16 * n ≤ length w₀ → Clear w₀ (15 * n) n → Falling (part w₀ (6 * n) k) → Rows v n ps k w₀ w₀ 0
   rows-start H l z f = record {
@@ -194,107 +197,167 @@ module _ {ps : List ℤ} {v : ValidParams} {n : ℕ} (r : Ready ps v n) {k : ℕ
     hashed = H;
     clear = z;
     high = omega arith;
-    goes = ap (λ (cs : List ℕ). left g (pairsBy g (listOf v n ps) cs) (part w₀ (6 * n) k)) (sym (rest-start k));
+    goes = ap (λ (cs : List ℕ). leftBy v n ps cs (part w₀ (6 * n) k)) (sym (rest-start k));
   }
 
   module _ {w : List ℕ} {c : ℕ} (i : Rows v n ps k w₀ w c) where
+    abbrev led : Leading g n k w₀ w
+    led = i .leading
+
+    -- the leaders, and as they are lent
+    abbrev P : List ℕ
+    P = part w (6 * n) k
+
+    abbrev P-lent : List ℕ
+    P-lent = part w (6 * n) (6 * n + k - 6 * n)
+
+    pub rows-end : k ≤ c → w ≡ over w₀ (6 * n) (leftBy v n ps (numbers k) (part w₀ (6 * n) k))
+    unfolding meetLists
+    rows-end h = led .still ∙ ap (over w₀ (6 * n)) (sym (i .goes ∙ ap (λ (cs : List ℕ). leftBy v n ps cs P) (rest-end k c h)))
+
+    room : 7 * n ≤ length w
+    room = omega (arith, led .room, led .size)
+
+    module _ (h : c < k) where
+      pub can-find : Falling P-lent × (c < length P-lent)
+      can-find =
+          let l = lent-length w n k (led .few) room in
+          (subst Falling (sym (lent w n k (led .few) room)) (led .falling), omega arith)
+
+      split-row : leftBy v n ps (rest k c) P ≡ leftBy v n ps (rest k (c + 1)) (left g (rowOf v n ps c (shorten P c)) (shorten P c))
+      unfolding meetLists
+      split-row = ap (λ (cs : List ℕ). leftBy v n ps cs P) (rest-step k c h)
+
+      pub found : {q : List ℕ} → q ≡ shorten P-lent c → {x : ℕ} → x ≡ root P-lent c → Found v n ps k w₀ (putMid (6 * n) (6 * n + k - 6 * n) w q) c x
+      found {q} eq {x} ex =
+          let whole = lent w n k (led .few) room in
+          let is : q ≡ shorten P c = eq ∙ ap (λ (z : List ℕ). shorten z c) whole in
+          let s : Stands k (root P) q = subst (Stands k (root P)) (sym is) (shorten-stands (leaders-stand led) c h) in
+          let e = back w n k (led .few) room q (s .size) in
+          let now = leaders-now led s e ∙ is in
+          let low : 6 * n + length q ≤ 10 * n = omega (arith, s .size, led .few) in
+          record {
+            leading = leading-on led s e;
+            hashed = subst (Hashed v n ps) (sym e) (hashed-over r (6 * n) q (omega (arith, room)) (inl low) (i .hashed));
+            clear = subst (λ (y : List ℕ). Clear y (15 * n) n) (sym e) (clear-after w (15 * n) n (6 * n) q (omega (arith, room)) (omega arith) (i .clear));
+            cell = h;
+            leads = ex
+                ∙ ap (λ (z : List ℕ). root z c) whole
+                ∙ sym (ap (λ (z : List ℕ). getD z c 0) now ∙ shorten-leads (led .falling) c (omega (arith, lead-length led)));
+            goes = i .goes ∙ split-row ∙ ap (λ (z : List ℕ). leftBy v n ps (rest k (c + 1)) (left g (rowOf v n ps c z) z)) (sym now);
+          }
+
+  -- ---- its leader x is looked for
+  module _ {w : List ℕ} {c x : ℕ} (i : Found v n ps k w₀ w c x) {a : Bool} (ea : a ≡ nonzero (getD w (5 * n + c) 0)) where
     abbrev L : Leading g n k w₀ w
     L = i .leading
 
-    pub rows-end : k ≤ c → w ≡ over w₀ (6 * n) (left g (pairsBy g (listOf v n ps) (numbers k)) (part w₀ (6 * n) k))
-    unfolding pairsBy meetAll
-    rows-end h = L .still ∙ ap (over w₀ (6 * n)) (sym (i .goes ∙ ap (λ (cs : List ℕ). left g (pairsBy g (listOf v n ps) cs) (part w (6 * n) k)) (rest-end k c h)))
+    tree : coreCell g (cellAt g c) ≡ a
+    tree = sym (ea ∙ tree-held r (L .grown) c (i .cell))
 
-    module _ (h : c < k) {a : Bool} (ea : a ≡ nonzero (getD w (5 * n + c) 0)) where
-      tree : coreCell g (cellAt g c) ≡ a
-      tree = sym (ea ∙ tree-held r (L .grown) c h)
+    is-one : c < length (cells g)
+    is-one = is-cell r gr c (i .cell)
 
-      -- the list of c, and its pairs
+    -- the leaders, the list of c, and the pairs to be met
+    abbrev p : List ℕ
+    p = part w (6 * n) k
+
+    abbrev all : List ℕ
+    all = listOf v n ps c
+
+    abbrev row : List (ℕ × ℕ)
+    row = rowOf v n ps c p
+
+    pub rows-skip : a ≡ false → Rows v n ps k w₀ w (c + 1)
+    unfolding meetAll
+    rows-skip f = record {
+      leading = L;
+      hashed = i .hashed;
+      clear = i .clear;
+      high = omega (arith, i .cell);
+      goes = i .goes ∙ ap (λ (xs : List (ℕ × ℕ)). leftBy v n ps (rest k (c + 1)) (left g xs p)) (with-none g c (unlike p c all) (tree ∙ f));
+    }
+
+    -- ---- c has a tree
+    module _ (t : a ≡ true) where
+      pub can-list : Ready ps v n × Arranged g k w × Hashed v n ps w × (c < k) × (16 * n ≤ length w) × (6 * n + n ≤ 10 * n)
+      can-list = (r, L .grown .cored .cells, i .hashed, i .cell, omega (arith, L .room, L .size), omega arith)
+
       abbrev ds : List ℕ
-      ds = listOf v n ps c
+      ds = unmarked w (6 * n) x all
 
-      abbrev row : List (ℕ × ℕ)
-      row = pairsWith g c ds
+      -- the cells of its list are below k, and with it pairs
+      in-all : (d : ℕ) → In d all → (d < k) × T (pairAt g c d)
+      in-all d j =
+          let z = list-sound r c is-one d j in
+          (omega (arith, z .0, cell-count r gr), parts-pair g c d (true-T (tree ∙ t)) (z .1) (z .2))
 
-      split-row : left g (from c) (part w (6 * n) k) ≡ left g (from (c + 1)) (left g row (part w (6 * n) k))
-      unfolding pairsBy
-      split-row =
-          ap (λ (cs : List ℕ). left g (pairsBy g (listOf v n ps) cs) (part w (6 * n) k)) (rest-step k c h)
-          ∙ meet-append byOwnLeaders (touchAt g) row (from (c + 1)) (part w (6 * n) k)
+      -- the list is made without the cells that have its leader
+      unlike-marked : ds ≡ unlike p c all
+      unfolding unmarked
+      unlike-marked =
+          keep-same (λ d. not (eqb (getD w (6 * n + d) 0) x)) (λ d. not (eqb (getD p d 0) (getD p c 0))) all
+          (λ d j. ap₂ (λ (y z : ℕ). not (eqb y z)) (sym (part-at w (6 * n) k d (in-all d j .0))) (i .leads))
 
-      pub rows-skip : a ≡ false → Rows v n ps k w₀ w (c + 1)
-      unfolding meetAll
-      rows-skip f = record {
-        leading = L;
-        hashed = i .hashed;
-        clear = i .clear;
-        high = omega arith;
-        goes = i .goes ∙ split-row ∙ ap (λ (xs : List (ℕ × ℕ)). left g (from (c + 1)) (left g xs (part w (6 * n) k))) (with-none g c ds (tree ∙ f));
-      }
+      in-ds : (d : ℕ) → In d ds → (d < k) × T (pairAt g c d)
+      in-ds d j = in-all d (in-unmarked w (6 * n) x d all j .0)
 
-      module _ (t : a ≡ true) where
-        cell : c < length (cells g)
-        cell = is-cell r gr c h
+      short : length ds ≤ n
+      short = omega (arith, unmarked-length r c is-one w (6 * n) x, few-cells r gr, cell-count r gr)
 
-        short : length ds ≤ n
-        short = omega (arith, list-length r c cell, few-cells r gr, cell-count r gr)
+      -- ---- its list is written
+      module _ {m : ℕ} (em : m ≡ length ds) {w₁ : List ℕ} (e₁ : w₁ ≡ over w (15 * n) ds) where
+        size₁ : length w₁ ≡ length w
+        size₁ = ap length e₁ ∙ over-length w (15 * n) ds (omega (arith, short, L .room, L .size))
 
-        pub can-list : Ready ps v n × Arranged g k w × Hashed v n ps w × (c < k) × (16 * n ≤ length w)
-        can-list = (r, L .grown .cored .cells, i .hashed, h, omega (arith, L .room, L .size))
+        leaders₁ : part w₁ (6 * n) k ≡ p
+        leaders₁ = ap (λ (z : List ℕ). part z (6 * n) k) e₁ ∙ part-under w (6 * n) k (15 * n) ds (omega (arith, L .few)) (omega (arith, L .room, L .size))
 
-        -- ---- its list is written
-        module _ {m : ℕ} (em : m ≡ length ds) {w₁ : List ℕ} (e₁ : w₁ ≡ over w (15 * n) ds) where
-          size₁ : length w₁ ≡ length w
-          size₁ = ap length e₁ ∙ over-length w (15 * n) ds (omega (arith, short, L .room, L .size))
+        list₁ : part w₁ (15 * n) m ≡ ds
+        list₁ = ap (λ (z : List ℕ). part z (15 * n) m) e₁ ∙ part-same w (15 * n) m ds (omega (arith, L .room, L .size)) (sym em)
 
-          leaders₁ : part w₁ (6 * n) k ≡ part w (6 * n) k
-          leaders₁ = ap (λ (z : List ℕ). part z (6 * n) k) e₁ ∙ part-under w (6 * n) k (15 * n) ds (omega (arith, L .few)) (omega (arith, L .room, L .size))
+        pub can-unite-list : (Ready ps v n × Grown g k w₁ × (c < k) × (m ≤ n)) × (((16 * n ≤ length w₁) × Falling (part w₁ (6 * n) k))
+            × ((d : ℕ) → In d (part w₁ (15 * n) m) → (d < k) × T (pairAt g c d)))
+        can-unite-list = (
+          (r, subst (Grown g k) (sym e₁) (grown-over (L .grown) (L .frames) (15 * n) ds (omega arith) (omega (arith, short)) (omega (arith, L .room, L .size))), i .cell, omega (arith, short)),
+          ((omega (arith, size₁, L .room, L .size), subst Falling (sym leaders₁) (L .falling)), λ d j. in-ds d (subst (In d) list₁ j)),
+        )
 
-          pub can-unite-list : (Ready ps v n × Grown g k w₁ × (c < k)) × (((16 * n ≤ length w₁) × Falling (part w₁ (6 * n) k))
-              × (T (coreCell g (cellAt g c)) × ((m ≡ length ds) × (part w₁ (15 * n) m ≡ ds))))
-          can-unite-list = (
-            (r, subst (Grown g k) (sym e₁) (grown-over (L .grown) (L .frames) (15 * n) ds (omega arith) (omega (arith, short)) (omega (arith, L .room, L .size))), h),
-            (
-              (omega (arith, size₁, L .room, L .size), subst Falling (sym leaders₁) (L .falling)),
-              (true-T (tree ∙ t), (em, ap (λ (z : List ℕ). part z (15 * n) m) e₁ ∙ part-same w (15 * n) m ds (omega (arith, L .room, L .size)) (sym em))),
-            ),
-          )
+        -- ---- its pairs are met
+        module _ {w₂ : List ℕ} (e₂ : w₂ ≡ over w₁ (6 * n) (left g (pairsWith g c (part w₁ (15 * n) m)) (part w₁ (6 * n) k))) where
+          abbrev after : List ℕ
+          after = left g row p
 
-          -- ---- its pairs are met
-          module _ {w₂ : List ℕ} (e₂ : w₂ ≡ over w₁ (6 * n) (left g row (part w₁ (6 * n) k))) where
-            abbrev after : List ℕ
-            after = left g row (part w (6 * n) k)
+          after-stand : Stands k (meetAll byLowest (touchAt g) row (root p)) after
+          after-stand = pairs-stand L row (with-within g c (unlike p c all) (i .cell) (λ d j. in-ds d (subst (In d) (sym unlike-marked) j) .0))
 
-            within : Within k row
-            within = with-within g c ds h (λ d j. list-below r gr c d h j)
+          -- the list stands above the leaders
+          second : w₂ ≡ over (over w (6 * n) after) (15 * n) ds
+          second =
+              e₂
+              ∙ ap₂ (λ (xs z : List ℕ). over w₁ (6 * n) (left g (pairsWith g c xs) z)) (list₁ ∙ unlike-marked) leaders₁
+              ∙ ap (λ (y : List ℕ). over y (6 * n) after) e₁
+              ∙ sym (over-apart w (6 * n) (15 * n) after ds (omega (arith, after-stand .size, L .few)) (omega (arith, short, L .room, L .size)))
 
-            size-after : length after ≡ k
-            size-after = all-stand (touchAt g) k row within (leaders-stand L) .size
+          size-u : length (over w (6 * n) after) ≡ length w
+          size-u = over-length w (6 * n) after (omega (arith, after-stand .size, L .few, L .room, L .size))
 
-            -- the list stands above the leaders
-            second : w₂ ≡ over (over w (6 * n) after) (15 * n) ds
-            second =
-                e₂
-                ∙ ap₂ (λ (y z : List ℕ). over y (6 * n) (left g row z)) e₁ leaders₁
-                ∙ sym (over-apart w (6 * n) (15 * n) after ds (omega (arith, size-after, L .few)) (omega (arith, short, L .room, L .size)))
+          pub can-clear : 15 * n + m ≤ length w₂
+          can-clear = omega (arith, ap length second, over-length (over w (6 * n) after) (15 * n) ds (omega (arith, size-u, short, L .room, L .size)), size-u, em, short, L .room, L .size)
 
-            size-u : length (over w (6 * n) after) ≡ length w
-            size-u = over-length w (6 * n) after (omega (arith, size-after, L .few, L .room, L .size))
-
-            pub can-clear : 15 * n + m ≤ length w₂
-            can-clear = omega (arith, ap length second, over-length (over w (6 * n) after) (15 * n) ds (omega (arith, size-u, short, L .room, L .size)), size-u, em, short, L .room, L .size)
-
-            -- ---- and its list cleared
-            pub rows-on : {w₃ : List ℕ} → w₃ ≡ over w₂ (15 * n) (replicate m 0) → Rows v n ps k w₀ w₃ (c + 1)
-            rows-on {w₃} e₃ =
-                let fit : 6 * n ≤ length w = omega (arith, L .room, L .size) in
-                let z : Clear (over w (6 * n) after) (15 * n) n = clear-after w (15 * n) n (6 * n) after fit (omega (arith, size-after, L .few)) (i .clear) in
-                let e : w₃ ≡ over w (6 * n) after =
-                e₃ ∙ ap₂ (λ (y : List ℕ) (x : ℕ). over y (15 * n) (replicate x 0)) second em ∙ list-cleared r c cell (over w (6 * n) after) (omega (arith, size-u, L .room, L .size)) z in
-                record {
-                  leading = leading-on L row within e;
-                  hashed = subst (Hashed v n ps) (sym e) (hashed-over r (6 * n) after fit (inl (omega (arith, size-after, L .few))) (i .hashed));
-                  clear = subst (λ (y : List ℕ). Clear y (15 * n) n) (sym e) z;
-                  high = omega arith;
-                  goes = i .goes ∙ split-row ∙ ap (left g (from (c + 1))) (sym (leaders-now L row within e));
-                }
+          -- ---- and its list cleared
+          pub rows-on : {w₃ : List ℕ} → w₃ ≡ over w₂ (15 * n) (replicate m 0) → Rows v n ps k w₀ w₃ (c + 1)
+          rows-on {w₃} e₃ =
+              let fit : 6 * n ≤ length w = omega (arith, L .room, L .size) in
+              let z : Clear (over w (6 * n) after) (15 * n) n = clear-after w (15 * n) n (6 * n) after fit (omega (arith, after-stand .size, L .few)) (i .clear) in
+              let e : w₃ ≡ over w (6 * n) after =
+              e₃
+              ∙ ap₂ (λ (y : List ℕ) (b : ℕ). over y (15 * n) (replicate b 0)) second em
+              ∙ unmarked-cleared r c is-one w (6 * n) x (over w (6 * n) after) (omega (arith, size-u, L .room, L .size)) z in
+              record {
+                leading = leading-on L after-stand e;
+                hashed = subst (Hashed v n ps) (sym e) (hashed-over r (6 * n) after fit (inl (omega (arith, after-stand .size, L .few))) (i .hashed));
+                clear = subst (λ (y : List ℕ). Clear y (15 * n) n) (sym e) z;
+                high = omega (arith, i .cell);
+                goes = i .goes ∙ ap (leftBy v n ps (rest k (c + 1))) (sym (leaders-now L after-stand e));
+              }

@@ -20,10 +20,10 @@ use Rattle.cells_grid.specs.Ready.{ready-lawful}
 use Rattle.cells_grid.specs.Arrangement.{cellAt, coreBit, Arranged}
 use Rattle.cells_grid.specs.ArrangementLaws.{words-count, number-word, number-below, core-word}
 use Rattle.core_cells.specs.Forest.{Grown}
-use Rattle.core_cells.specs.ForestLaws.{word-room, has-tree, no-tree-node}
+use Rattle.core_cells.specs.ForestLaws.{word-room, is-core-cell, no-tree-node}
 use Rattle.clustering.specs.Uniting.{pairAt}
 
--- a cell with a non-zero count has a tree
+-- a cell with a non-zero count is a core cell
 pub counted-core : (g : Geometry) (i c : ℕ) → T (nonzero (count g i (cellAt g c))) → T (coreCell g (cellAt g c))
 unfolding count
 counted-core g i c t = elim (T-or-not (coreCell g (cellAt g c))) [
@@ -62,7 +62,7 @@ module _ {ps : List ℤ} {v : ValidParams} {n : ℕ} (r : Ready ps v n) {k : ℕ
   tree-room = word-room gr frames
 
   pub tree-held : (c : ℕ) → c < k → nonzero (getD w (5 * n + c) 0) ≡ coreCell g (cellAt g c)
-  tree-held = has-tree gr frames
+  tree-held = is-core-cell gr frames
 
   pub core-held : (i : ℕ) → i < n → eqb (getD w (4 * n + i) 0) 1 ≡ core g i
   core-held = core-word g (gr .cored) n frames

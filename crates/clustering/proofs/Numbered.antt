@@ -12,20 +12,20 @@ use Rattle.lists.specs.ListLaws.{true-T, T-true, at-numbers, length-numbers}
 use Rattle.lists.specs.OrderLaws.{many-snoc, kept-le}
 use Rattle.lists.specs.PartLaws.{get-under, get-laid}
 use Rattle.lists.specs.LoopLaws.{Fill, fill-start, fill-step, fill-end}
-use Rattle.clustering.specs.Numbering.{treeIn, lowestIn, Led, leads, numberBy}
+use Rattle.clustering.specs.Numbering.{coreIn, lowestIn, Led, leads, numberBy}
 
 pub record Numbered (w : List ℕ) (n k : ℕ) (v : List ℕ) (m c : ℕ) : Type 0 where
   pub few : k ≤ n
-  pub led : Led (treeIn w n) (lowestIn w n) k
-  pub fill : Fill (numberBy (treeIn w n) (lowestIn w n)) w (7 * n) k v c
-  pub count : m ≡ howMany (leads (treeIn w n) (lowestIn w n)) (numbers c)
+  pub led : Led (coreIn w n) (lowestIn w n) k
+  pub fill : Fill (numberBy (coreIn w n) (lowestIn w n)) w (7 * n) k v c
+  pub count : m ≡ howMany (leads (coreIn w n) (lowestIn w n)) (numbers c)
 
-pub numbered-start : {w : List ℕ} {n k : ℕ} → k ≤ n → 8 * n ≤ length w → Led (treeIn w n) (lowestIn w n) k → Numbered w n k w 0 0
+pub numbered-start : {w : List ℕ} {n k : ℕ} → k ≤ n → 8 * n ≤ length w → Led (coreIn w n) (lowestIn w n) k → Numbered w n k w 0 0
 numbered-start h l d = record { few = h; led = d; fill = fill-start (omega arith); count = refl }
 
 module _ {w : List ℕ} {n k : ℕ} {v : List ℕ} {m c : ℕ} (i : Numbered w n k v m c) where
   abbrev core : ℕ → Bool
-  core = treeIn w n
+  core = coreIn w n
 
   abbrev low : ℕ → ℕ
   low = lowestIn w n

@@ -28,7 +28,7 @@ use Rattle.partitions.specs.TrialLaws.{Within, Alike, alike}
 use Rattle.clustering.specs.declared.uniting.Progress.{Progress}
 use Rattle.clustering.specs.Uniting.{pairsOf, touchAt, progressBy, progressOf, uniting, lowestAt}
 use Rattle.clustering.specs.UnitingLaws.{in-pairs}
-use Rattle.clustering.specs.UniteAll.{meetAll, byOwnLeaders, pairsBy}
+use Rattle.clustering.specs.UniteAll.{meetLists}
 use Rattle.clustering.specs.UniteAllLaws.{lists-stand, list-listed}
 use Rattle.clustering.proofs.Held.{frames, few-cells, cell-count}
 use Rattle.clustering.proofs.Lent.{lent, lent-length, back}
@@ -103,12 +103,12 @@ module _ {ps : List ℤ} {v : ValidParams} {n : ℕ} (r : Ready ps v n) {k : ℕ
         ),
       )
 
-    pub met-stand : Stands k (lowestAt g (n * n)) (meetAll byOwnLeaders (touchAt g) (pairsBy g (listOf v n ps) (numbers k)) (part w₁ (6 * n) k))
+    pub met-stand : Stands k (lowestAt g (n * n)) (meetLists g (touchAt g) (listOf v n ps) (numbers k) (part w₁ (6 * n) k))
     met-stand =
         let e = cell-count r gr in
         let l : length (cells g) ≤ n = omega (arith, few) in
-        subst (λ (p : List ℕ). Stands k (lowestAt g (n * n)) (meetAll byOwnLeaders (touchAt g) (pairsBy g (listOf v n ps) (numbers k)) p)) (sym leaders-first)
-        (subst (λ (m : ℕ). Stands m (lowestAt g (n * n)) (meetAll byOwnLeaders (touchAt g) (pairsBy g (listOf v n ps) (numbers m)) (column (λ c. c) m))) (sym e)
+        subst (λ (p : List ℕ). Stands k (lowestAt g (n * n)) (meetLists g (touchAt g) (listOf v n ps) (numbers k) p)) (sym leaders-first)
+        (subst (λ (m : ℕ). Stands m (lowestAt g (n * n)) (meetLists g (touchAt g) (listOf v n ps) (numbers m) (column (λ c. c) m))) (sym e)
         (lists-stand g (listOf v n ps) (list-listed r) (n * n) (mul-le-mul l l)))
 
     -- ---- after either: leaders s, which stand for sets with the lowest cells `low`

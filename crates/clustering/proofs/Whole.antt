@@ -22,7 +22,7 @@ use Rattle.core_cells.specs.Forest.{Grown}
 use Rattle.clustering.specs.Clusters.{place, clusters, labelBy, kindOf}
 use Rattle.clustering.specs.Uniting.{uniting, lowestAt}
 use Rattle.clustering.specs.UnitingLaws.{uniting-finishes, lowest-led, cluster-total, cluster-word}
-use Rattle.clustering.specs.Numbering.{treeIn, lowestIn, Led, leads, numberBy, clusterWord}
+use Rattle.clustering.specs.Numbering.{coreIn, lowestIn, Led, leads, numberBy, clusterWord}
 use Rattle.clustering.specs.NumberingLaws.{led-same, leads-same, number-same}
 use Rattle.clustering.proofs.Held.{lawful, cell-count, few-cells, tree-held}
 use Rattle.clustering.proofs.Searching.{CanSearch, HashedOn, hashed, search-start, search-over, hashed-on-over, hashed-on-cleared}
@@ -56,34 +56,34 @@ module _ {ps : List ℤ} {v : ValidParams} {n : ℕ} (r : Ready ps v n) {k : ℕ
       search₁ : CanSearch ps v n k w₁
       search₁ = subst (CanSearch ps v n k) (sym e₁) (search-over r (6 * n) (column low k) (omega arith) (omega (arith, length-numbers low k, few)) search₀)
 
-      core-same : (c : ℕ) → c < k → treeIn w₁ n c ≡ isCore c
+      core-same : (c : ℕ) → c < k → coreIn w₁ n c ≡ isCore c
       core-same = tree-held r (search₁ .0)
 
       low-same : (c : ℕ) → c < k → lowestIn w₁ n c ≡ low c
       low-same c h =
           holds-at w₁ (6 * n) k low c (ap (λ (z : List ℕ). part z (6 * n) k) e₁ ∙ part-same w₀ (6 * n) k (column low k) (omega (arith, search₀ .1 .2)) (length-numbers low k)) h
 
-      pub can-number : (k ≤ n) × (n ≤ maxFrames) × (8 * n ≤ length w₁) × Led (treeIn w₁ n) (lowestIn w₁ n) k
+      pub can-number : (k ≤ n) × (n ≤ maxFrames) × (8 * n ≤ length w₁) × Led (coreIn w₁ n) (lowestIn w₁ n) k
       can-number = (few, r .few, omega (arith, search₁ .1 .2), led-same core-same low-same led)
 
-      pub clusters-counted : {m : ℕ} → m ≡ howMany (leads (treeIn w₁ n) (lowestIn w₁ n)) (numbers k) → m ≡ length (clusters g)
+      pub clusters-counted : {m : ℕ} → m ≡ howMany (leads (coreIn w₁ n) (lowestIn w₁ n)) (numbers k) → m ≡ length (clusters g)
       clusters-counted e =
           e ∙ leads-same core-same low-same led k (omega arith) ∙ ap (λ (m : ℕ). howMany (leads isCore low) (numbers m)) (cell-count r gr) ∙ sym (cluster-total g (lawful r gr) (n * n) done)
 
       -- ---- numbered
-      module _ {w₂ : List ℕ} (e₂ : w₂ ≡ over w₁ (7 * n) (column (numberBy (treeIn w₁ n) (lowestIn w₁ n)) k)) where
+      module _ {w₂ : List ℕ} (e₂ : w₂ ≡ over w₁ (7 * n) (column (numberBy (coreIn w₁ n) (lowestIn w₁ n)) k)) where
         abbrev numbered : List ℕ
         numbered = column (clusterWord g) k
 
         laid₂ : w₂ ≡ over w₁ (7 * n) numbered
-        laid₂ = e₂ ∙ ap (over w₁ (7 * n)) (map-same (numberBy (treeIn w₁ n) (lowestIn w₁ n)) (clusterWord g) (numbers k) (λ c i.
+        laid₂ = e₂ ∙ ap (over w₁ (7 * n)) (map-same (numberBy (coreIn w₁ n) (lowestIn w₁ n)) (clusterWord g) (numbers k) (λ c i.
             let h = in-numbers k c i in
             number-same core-same low-same led c h ∙ cluster-word g (lawful r gr) (n * n) done c (omega (arith, cell-count r gr))))
 
         search₂ : CanSearch ps v n k w₂
         search₂ = subst (CanSearch ps v n k) (sym laid₂) (search-over r (7 * n) numbered (omega arith) (omega (arith, length-numbers (clusterWord g) k, few)) search₁)
 
-        pub can-label : {m : ℕ} → m ≡ howMany (leads (treeIn w₁ n) (lowestIn w₁ n)) (numbers k)
+        pub can-label : {m : ℕ} → m ≡ howMany (leads (coreIn w₁ n) (lowestIn w₁ n)) (numbers k)
             → (Ready ps v n × Grown g k w₂) × ((Hashed v n ps w₂ × Clear w₂ (15 * n) n × (16 * n ≤ length w₂)) × ((m ≡ length (clusters g)) × (part w₂ (7 * n) k ≡ numbered)))
         can-label e = (
           (r, search₂ .0),

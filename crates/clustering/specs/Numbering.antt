@@ -12,8 +12,8 @@ use Rattle.cells_grid.specs.Arrangement.{cellAt}
 use Rattle.clustering.specs.Clusters.{place, clusters}
 
 -- what the words say of the cell with number c: whether it is a core cell, and the lowest cell of its set
-abbrev pub treeIn : List ℕ → ℕ → ℕ → Bool
-treeIn w n c = nonzero (getD w (5 * n + c) 0)
+abbrev pub coreIn : List ℕ → ℕ → ℕ → Bool
+coreIn w n c = nonzero (getD w (5 * n + c) 0)
 
 abbrev pub lowestIn : List ℕ → ℕ → ℕ → ℕ
 lowestIn w n c = getD w (6 * n + c) 0

@@ -1,18 +1,19 @@
--- Laws of uniting with no count of trials: whatever the order of the pairs, it leaves the sets that enough trials leave.
+-- Laws of uniting with no count of trials: whatever the order of the pairs, and without those of cells that have one leader, it leaves the sets that enough trials leave.
 use mathlib.Core.Path.{_≡_, refl, sym, ap, _∙_, subst}
 use mathlib.Core.Logic.{inl, inr}
-use mathlib.Core.Bool.{Bool, true, false, cond}
+use mathlib.Core.Bool.{Bool, true, false, not, _&&_, _||_, cond, and-comm}
 use mathlib.Core.List.{List, [], _∷_, _++_, map}
-use Prim.Native.Nat.{ℕ, suc, _+_, _*_, _<_, _≤_}
+use Prim.Native.Nat.{ℕ, suc, _+_, _*_, _<_, _≤_, min}
 use native.Mathlib.Nat.{le-refl, le-antisymm}
 use native.Mathlib.Omega.{arith}
-use lib.Dec.{T, eqb}
+use lib.Dec.{T, eqb, eqb→eq}
 use lib.IntN.{ℤ}
 use lib.ListN.{length, getD}
-use borrow.Author.Tests.{lt-ltb}
-use Rattle.lists.specs.Lists.{numbers, keep, In}
+use borrow.Author.Tests.{lt-ltb, eq-eqb}
+use Rattle.lists.specs.Lists.{numbers, keep, In, Below}
 use Rattle.lists.specs.Words.{column}
-use Rattle.lists.specs.ListLaws.{keep-in, in-keep, concat-in, in-concat, map-in, in-map, numbers-in, in-numbers}
+use Rattle.lists.specs.ListLaws.{true-T, not-turn, keep-in, in-keep, keep-same, concat-in, in-concat, map-in, in-map, numbers-in, in-numbers}
+use Rattle.lists.specs.CountLaws.{keep-keep, keep-map}
 use Rattle.lists.specs.Chains.{Chain, chain-map}
 use Rattle.hyperparams.specs.declared.ValidParams.{ValidParams}
 use Rattle.counting_tree.specs.Geometry.{Geometry}
@@ -21,14 +22,14 @@ use Rattle.cells_grid.specs.Cells.{cells, listed, coreCell}
 use Rattle.cells_grid.specs.Arrangement.{cellAt}
 use Rattle.cells_grid.specs.Listing.{listOf}
 use Rattle.cells_grid.specs.ListingLaws.{list-sound, list-complete}
-use Rattle.partitions.specs.Leaders.{shortenBoth}
-use Rattle.partitions.specs.LeaderLaws.{Stands, alone-stands, both-stand, united-stands}
-use Rattle.partitions.specs.Trials.{Holding, Outcome, run, byLowest}
+use Rattle.partitions.specs.Leaders.{root, shortenBoth}
+use Rattle.partitions.specs.LeaderLaws.{Stands, root-next, alone-stands, shorten-stands, both-stand, united-stands}
+use Rattle.partitions.specs.Trials.{Holding, Outcome, run, merged, byLowest}
 use Rattle.partitions.specs.TrialLaws.{run-finishes, run-keeps, Link, Within, joined-one, one-joined}
 use Rattle.clustering.specs.LeaderPartition.{Lowest, unite-lowest}
 use Rattle.clustering.specs.Uniting.{pairAt, pairsWith, pairsOf, touchAt, uniting, lowestAt}
-use Rattle.clustering.specs.UnitingLaws.{in-pairs, pairs-in, pair-parts, pairs-few}
-use Rattle.clustering.specs.UniteAll.{meet, meetAll, byOwnLeaders, pairsBy}
+use Rattle.clustering.specs.UnitingLaws.{in-pairs, pairs-in, pair-parts, with-within, pairs-few}
+use Rattle.clustering.specs.UniteAll.{meet, meetAll, byOwnLeaders, unlike, meetLists, pairsBy}
 
 -- ---- however sets are held
 module _ {S : Type 0} (h : Holding S) (touch : ℕ → ℕ → Bool) where
@@ -122,6 +123,71 @@ module _ (touch : ℕ → ℕ → Bool) (n : ℕ) where
   all-stand [] w s = s
   all-stand ((a, b) ∷ ps) w s = let h = w a b (inl refl) in all-stand ps (λ c d i. w c d (inr i)) (meet-stands s a b (h .0) (h .1))
 
+  -- a pair in one set is passed
+  meet-same : (a b : ℕ) (l : ℕ → ℕ) → l a ≡ l b → meet byLowest touch a b l ≡ l
+  unfolding meet
+  meet-same a b l e = rw (eq-eqb (l a) (l b) e)
+
+  -- cells in one set stay in one
+  meet-keeps : (a b : ℕ) (l : ℕ → ℕ) (x y : ℕ) → l x ≡ l y → meet byLowest touch a b l x ≡ meet byLowest touch a b l y
+  unfolding meet
+  meet-keeps a b l x y e = go (eqb (l a) (l b)) (touch a b)
+    where
+      go : (u v : Bool) → cond u l (cond v (merged l a b) l) x ≡ cond u l (cond v (merged l a b) l) y
+      go true v = e
+      go false true = ap (λ (z : ℕ). cond (eqb z (l a) || eqb z (l b)) (min (l a) (l b)) z) e
+      go false false = e
+
+  -- so pairs that are in one set at first can be left out
+  fewer-stand : (f : ℕ × ℕ → Bool) (ps : List (ℕ × ℕ)) → Within n ps → {l : ℕ → ℕ} {p : List ℕ} → ((a b : ℕ) → In (a, b) ps → f (a, b) ≡ false → l a ≡ l b)
+      → Stands n l p → Stands n (meetAll byLowest touch ps l) (meetAll byOwnLeaders touch (keep f ps) p)
+  unfolding meetAll
+  fewer-stand f [] w o s = s
+  fewer-stand f ((a, b) ∷ ps) w {l} {p} o s =
+      let h = w a b (inl refl) in
+      let v : Within n ps = λ c d i. w c d (inr i) in
+      go (f (a, b)) (o a b (inl refl))
+      (fewer-stand f ps v (λ c d i e. meet-keeps a b l c d (o c d (inr i) e)) (meet-stands s a b (h .0) (h .1)))
+      (fewer-stand f ps v (λ c d i. o c d (inr i)) s)
+    where
+      go : (x : Bool) → (x ≡ false → l a ≡ l b) → Stands n (meetAll byLowest touch ps (meet byLowest touch a b l)) (meetAll byOwnLeaders touch (keep f ps) (meet byOwnLeaders touch a b p))
+          → Stands n (meetAll byLowest touch ps l) (meetAll byOwnLeaders touch (keep f ps) p)
+          → Stands n (meetAll byLowest touch ps (meet byLowest touch a b l)) (meetAll byOwnLeaders touch (cond x ((a, b) ∷ keep f ps) (keep f ps)) p)
+      go true e t u = t
+      go false e t u = rw (meet-same a b l (e refl)) u
+
+-- ---- a cell with the cells of a list
+module _ (g : Geometry) where
+  -- the pairs of c with some of the cells ds are some of its pairs
+  with-some : (f : ℕ × ℕ → Bool) (c : ℕ) (ds : List ℕ) → pairsWith g c (keep (λ d. f (c, d)) ds) ≡ keep f (pairsWith g c ds)
+  unfolding pairsWith
+  with-some f c ds =
+      let with-c : ℕ → Bool = λ d. f (c, d) in
+      ap (map {B = ℕ × ℕ} (λ d. (c, d)))
+      (keep-keep (pairAt g c) with-c ds
+      ∙ keep-same (λ d. with-c d && pairAt g c d) (λ d. pairAt g c d && with-c d) ds (λ d i. and-comm (with-c d) (pairAt g c d))
+      ∙ sym (keep-keep with-c (pairAt g c) ds))
+      ∙ sym (keep-map f (λ d. (c, d)) (keep (pairAt g c) ds))
+
+  -- those that have c's leader are in its set, and can be left out
+  row-stands : (touch : ℕ → ℕ → Bool) (n c : ℕ) (ds : List ℕ) → c < n → Below n ds → {l : ℕ → ℕ} {p : List ℕ} → Stands n l p
+      → Stands n (meetAll byLowest touch (pairsWith g c ds) l) (meetAll byOwnLeaders touch (pairsWith g c (unlike p c ds)) p)
+  row-stands touch n c ds h below {l} {p} s =
+      subst (λ (qs : List (ℕ × ℕ)). Stands n (meetAll byLowest touch (pairsWith g c ds) l) (meetAll byOwnLeaders touch qs p)) (sym (with-some other c ds))
+      (fewer-stand touch n other (pairsWith g c ds) within one s)
+    where
+      other : ℕ × ℕ → Bool
+      other z = not (eqb (getD p (z .1) 0) (getD p (z .0) 0))
+
+      within : Within n (pairsWith g c ds)
+      within = with-within g c ds h below
+
+      one : (a b : ℕ) → In (a, b) (pairsWith g c ds) → other (a, b) ≡ false → l a ≡ l b
+      one a b i e =
+          let w = within a b i in
+          let q : getD p b 0 ≡ getD p a 0 = eqb→eq (getD p b 0) (getD p a 0) (true-T (not-turn (eqb (getD p b 0) (getD p a 0)) false e)) in
+          sym (s .roots a (w .0)) ∙ root-next (s .falling) a ∙ ap (root p) (sym q) ∙ sym (root-next (s .falling) b) ∙ s .roots b (w .1)
+
 -- ---- the pairs by lists, in any order
 -- a list has the core cells that its cell lists, and no others
 pub record Lists (g : Geometry) (lists : ℕ → List ℕ) : Type 0 where
@@ -154,8 +220,15 @@ module _ (g : Geometry) (lists : ℕ → List ℕ) where
         concat-in (a, b) (pairsWith g a (lists a)) (map (λ c. pairsWith g c (lists c)) all) (map-in (λ c. pairsWith g c (lists c)) a all (numbers-in cellCount a (z .0)))
         (map-in (λ d. (a, d)) b (keep (pairAt g a) (lists a)) (keep-in (pairAt g a) b (lists a) (exact .complete a b (z .0) (z .1) (p .1) (p .2)) (z .2)))
 
-    by-within : Within cellCount (pairsBy g lists (numbers cellCount))
-    by-within a b i = let z = in-pairs g a b (by-in a b i) in (z .0, z .1)
+    -- leaders in memory go as sets do that meet all pairs
+    rows-stand : (touch : ℕ → ℕ → Bool) (cs : List ℕ) → Below cellCount cs → {l : ℕ → ℕ} {p : List ℕ} → Stands cellCount l p
+        → Stands cellCount (meetAll byLowest touch (pairsBy g lists cs) l) (meetLists g touch lists cs p)
+    unfolding pairsBy meetLists meetAll
+    rows-stand touch [] below s = s
+    rows-stand touch (c ∷ cs) below {l} {p} s =
+        let h = below c (inl refl) in
+        rw (meet-append byLowest touch (pairsWith g c (lists c)) (pairsBy g lists cs) l) (rows-stand touch cs (λ d i. below d (inr i))
+        (row-stands g touch cellCount c (lists c) h (λ d i. exact .sound c d h i .0) (shorten-stands s c h)))
 
     module _ (trials : ℕ) (enough : cellCount * cellCount ≤ trials) where
       -- what enough trials leave
@@ -165,9 +238,9 @@ module _ (g : Geometry) (lists : ℕ → List ℕ) where
           any-order (touchAt g) (pairsBy g lists (numbers cellCount)) (pairsOf g) by-in in-by x
           ∙ ap (λ (l : ℕ → ℕ). l x) (sym (run-meets byLowest (touchAt g) trials 0 (pairsOf g) (λ c. c) (omega (arith, pairs-few g))))
 
-      pub lists-stand : Stands cellCount (lowestAt g trials) (meetAll byOwnLeaders (touchAt g) (pairsBy g lists (numbers cellCount)) (column (λ c. c) cellCount))
+      pub lists-stand : Stands cellCount (lowestAt g trials) (meetLists g (touchAt g) lists (numbers cellCount) (column (λ c. c) cellCount))
       lists-stand =
-          let s = all-stand (touchAt g) cellCount (pairsBy g lists (numbers cellCount)) by-within (alone-stands cellCount) in
+          let s = rows-stand (touchAt g) (numbers cellCount) (in-numbers cellCount) (alone-stands cellCount) in
           record { falling = s .falling; size = s .size; roots = λ c h. s .roots c h ∙ by-lowest c }
 
 -- the lists that cells have are such

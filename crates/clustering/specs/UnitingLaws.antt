@@ -108,7 +108,7 @@ module _ (g : Geometry) where
       let x = in-map (λ d. (c, d)) (a, b) (keep (pairAt g c) ds) j in
       subst (λ (z : ℕ × ℕ). (z .0 < k) × (z .1 < k)) (sym (x .2)) (h, l (x .0) (in-keep (pairAt g c) (x .0) ds (x .1) .0))
 
-  -- a cell with no tree has no pairs
+  -- a cell that is no core cell has no pairs
   pub with-none : (c : ℕ) (ds : List ℕ) → coreCell g (cellAt g c) ≡ false → pairsWith g c ds ≡ []
   unfolding pairsWith
   with-none c ds e = ap (map {B = ℕ × ℕ} (λ d. (c, d))) (keep-none (pairAt g c) ds (λ d i t. subst T e (pair-parts c d t .0)))

@@ -18,7 +18,7 @@ ghost use Rattle.cells_grid.specs.Cells.{cellNumber};
 ghost use Rattle.cells_grid.specs.Listing.{Hashed};
 ghost use Rattle.core_cells.specs.Forest.{Grown};
 ghost use Rattle.clustering.specs.Clusters.{place, clusters, labelBy, kindOf};
-ghost use Rattle.clustering.specs.Numbering.{treeIn, lowestIn, Led, leads, numberBy, clusterWord, bordersAt};
+ghost use Rattle.clustering.specs.Numbering.{coreIn, lowestIn, Led, leads, numberBy, clusterWord, bordersAt};
 
 // The label and the kind of a frame.
 pub struct FrameLabel {
@@ -28,16 +28,16 @@ pub struct FrameLabel {
 
 // Numbers the clusters in ascending order of their lowest cells, and writes the number of each core cell's. Returns how many there are.
 pub fn number_clusters(work: &mut [Word], n: usize, k: usize) -> usize
-    requires { ⌜ (k ≤ n) × (n ≤ maxFrames) × (8 * n ≤ length (now work)) × Led (treeIn (now work) n) (lowestIn (now work) n) k ⌝ }
-    ensures count { λ r. ⌜ r ≡ howMany (leads (treeIn (now (work .entry)) n) (lowestIn (now (work .entry)) n)) (numbers k) ⌝ }
-    ensures work { λ _. ⌜ now (work .exit) ≡ over (now (work .entry)) (7 * n) (column (numberBy (treeIn (now (work .entry)) n) (lowestIn (now (work .entry)) n)) k) ⌝ }
+    requires { ⌜ (k ≤ n) × (n ≤ maxFrames) × (8 * n ≤ length (now work)) × Led (coreIn (now work) n) (lowestIn (now work) n) k ⌝ }
+    ensures count { λ r. ⌜ r ≡ howMany (leads (coreIn (now (work .entry)) n) (lowestIn (now (work .entry)) n)) (numbers k) ⌝ }
+    ensures work { λ _. ⌜ now (work .exit) ≡ over (now (work .entry)) (7 * n) (column (numberBy (coreIn (now (work .entry)) n) (lowestIn (now (work .entry)) n)) k) ⌝ }
 {
     let mut m = 0;
     let mut c = 0;
     while c < k {
         let next = c + 1;
         let at = CLUSTERS * n + c;
-        if core_cells::has_tree(work, n, c) {
+        if core_cells::is_core_cell(work, n, c) {
             let lowest = lists::word(work, LEADERS * n + c);
             if lowest == c {
                 work[at] = m as Word;
@@ -78,7 +78,8 @@ fn border_cell(
         let next = j + 1;
         let c = lists::word(work, LIST * n + j);
         if c < b {
-            if core_cells::reaches(points, v, n, k, work, i, c) {
+            let root = core_cells::root_box(points, v, n, k, work, c);
+            if core_cells::reaches(points, v, n, k, work, i, c, root) {
                 b = c;
                 j = next;
             } else {

@@ -7,13 +7,12 @@ use cells_grid::listing::LIST;
 use hyperparams::ValidParams;
 use lists::Word;
 ghost use mathlib.Core.Path.{_≡_};
-ghost use Prim.Native.Nat.{_+_, _*_, _<_, _≤_};
+ghost use Prim.Native.Nat.{ℕ, _+_, _*_, _<_, _≤_};
 ghost use lib.Dec.{T};
 ghost use lib.ListN.{length};
-ghost use Rattle.lists.specs.Lists.{numbers};
+ghost use Rattle.lists.specs.Lists.{numbers, In};
 ghost use Rattle.lists.specs.Words.{over, part, column, Clear};
 ghost use Rattle.counting_tree.specs.Ready.{geometryAt, Ready};
-ghost use Rattle.cells_grid.specs.Cells.{coreCell};
 ghost use Rattle.cells_grid.specs.Arrangement.{cellAt};
 ghost use Rattle.cells_grid.specs.Listing.{listOf, Hashed};
 ghost use Rattle.core_cells.specs.Forest.{Grown};
@@ -21,7 +20,7 @@ ghost use Rattle.partitions.specs.Leaders.{Falling, root};
 ghost use Rattle.partitions.specs.Trials.{run, byLeaders};
 ghost use Rattle.clustering.specs.Clusters.{touches};
 ghost use Rattle.clustering.specs.Uniting.{pairAt, onePair, pairsWith, pairsOf, touchAt, stopped, progressOf, uniting, lowestAt};
-ghost use Rattle.clustering.specs.UniteAll.{meetAll, byOwnLeaders, pairsBy};
+ghost use Rattle.clustering.specs.UniteAll.{meetAll, byOwnLeaders, meetLists};
 
 // What a trial left: the trials used, and whether the pair needs one more than there are.
 struct Tried {
@@ -49,13 +48,14 @@ pub fn touches_cell(
     requires { ⌜ Ready (now points) v n × Grown (geometryAt v n (now points)) k (now work) × (c < k) × (d < k) ⌝ }
     ensures { λ r. ⌜ (let g = geometryAt v n (now (points .entry)) in r ≡ touches g (cellAt g c) (cellAt g d)) ⌝ }
 {
+    let root = core_cells::root_box(points, v, n, k, work, d);
     let end = cells_grid::cell_end(work, n, k, c);
     let mut p = lists::word(work, STARTS * n + c);
     while p < end {
         let next = p + 1;
         let i = lists::word(work, PLACES * n + p);
         if cells_grid::is_core(work, n, i) {
-            if core_cells::reaches(points, v, n, k, work, i, d) {
+            if core_cells::reaches(points, v, n, k, work, i, d, root) {
                 return true;
             }
             p = next;
@@ -79,10 +79,10 @@ fn is_pair(
     requires { ⌜ Ready (now points) v n × Grown (geometryAt v n (now points)) k (now work) × (c < k) × (d < k) ⌝ }
     ensures { λ r. ⌜ r ≡ pairAt (geometryAt v n (now (points .entry))) c d ⌝ }
 {
-    if !core_cells::has_tree(work, n, c) {
+    if !core_cells::is_core_cell(work, n, c) {
         return false;
     }
-    if !core_cells::has_tree(work, n, d) {
+    if !core_cells::is_core_cell(work, n, d) {
         return false;
     }
     cells_grid::is_listed(points, v, n, work, c, d)
@@ -212,7 +212,7 @@ pub fn unite_neighbouring_cells(
 }
 
 // Takes a pair of cells: where they are in two sets and c touches d, makes one set of theirs.
-// (Most pairs are in one set, and have one leader: this is asked first.)
+// (Two cells that have one leader are in one set: this is asked first.)
 fn meet_cells(
     points: &[i16],
     v: ValidParams,
@@ -241,7 +241,7 @@ fn meet_cells(
     }
 }
 
-// Takes cell c, which has a tree, with each of the m cells of its list.
+// Takes cell c with each of the m cells from 15n on.
 fn unite_list(
     points: &[i16],
     v: ValidParams,
@@ -251,12 +251,11 @@ fn unite_list(
     c: usize,
     m: usize,
 )
-    requires { ⌜ Ready (now points) v n × Grown (geometryAt v n (now points)) k (now work) × (c < k) ⌝ }
+    requires { ⌜ Ready (now points) v n × Grown (geometryAt v n (now points)) k (now work) × (c < k) × (m ≤ n) ⌝ }
     requires { ⌜ (16 * n ≤ length (now work)) × Falling (part (now work) (6 * n) k) ⌝ }
-    requires { ⌜ T (coreCell (geometryAt v n (now points)) (cellAt (geometryAt v n (now points)) c)) ⌝ }
-    requires { ⌜ (m ≡ length (listOf v n (now points) c)) × (part (now work) (15 * n) m ≡ listOf v n (now points) c) ⌝ }
+    requires { ⌜ ((d : ℕ) → In d (part (now work) (15 * n) m) → (d < k) × T (pairAt (geometryAt v n (now points)) c d)) ⌝ }
     ensures { λ _. ⌜ (let g = geometryAt v n (now (points .entry)) in now (work .exit) ≡ over (now (work .entry)) (6 * n)
-        (meetAll byOwnLeaders (touchAt g) (pairsWith g c (listOf v n (now (points .entry)) c)) (part (now (work .entry)) (6 * n) k))) ⌝ }
+        (meetAll byOwnLeaders (touchAt g) (pairsWith g c (part (now (work .entry)) (15 * n) m)) (part (now (work .entry)) (6 * n) k))) ⌝ }
 {
     let mut j = 0;
     while j < m {
@@ -266,18 +265,22 @@ fn unite_list(
     }
 }
 
-// Takes each cell that has a tree with the cells of its list.
+// Takes each core cell with the cells of its list. (Most of these already have the lowest cell of its set for their leader:
+// so this is looked for first, whatever leader the cell itself has, and the list is made without them.)
 fn unite_lists(points: &[i16], v: ValidParams, n: usize, k: usize, work: &mut [Word])
     requires { ⌜ Ready (now points) v n × Grown (geometryAt v n (now points)) k (now work) × Hashed v n (now points) (now work) ⌝ }
     requires { ⌜ (16 * n ≤ length (now work)) × Clear (now work) (15 * n) n × Falling (part (now work) (6 * n) k) ⌝ }
     ensures { λ _. ⌜ (let g = geometryAt v n (now (points .entry)) in now (work .exit) ≡ over (now (work .entry)) (6 * n)
-        (meetAll byOwnLeaders (touchAt g) (pairsBy g (listOf v n (now (points .entry))) (numbers k)) (part (now (work .entry)) (6 * n) k))) ⌝ }
+        (meetLists g (touchAt g) (listOf v n (now (points .entry))) (numbers k) (part (now (work .entry)) (6 * n) k))) ⌝ }
 {
+    let a = LEADERS * n;
+    let e = a + k;
     let mut c = 0;
     while c < k {
         let next = c + 1;
-        if core_cells::has_tree(work, n, c) {
-            let m = cells_grid::listing::list_cells(points, v, n, k, work, c);
+        let leader = partitions::find(&mut work[a..e], c);
+        if core_cells::is_core_cell(work, n, c) {
+            let m = cells_grid::listing::list_unmarked(points, v, n, k, work, c, a, leader);
             unite_list(points, v, n, k, work, c, m);
             lists::clear_words(work, LIST * n, m);
             c = next;

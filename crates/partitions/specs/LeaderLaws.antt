@@ -173,6 +173,16 @@ shorten-stands {n} {l} {p} s = leader-induction (s .falling) (λ c. c < n → St
           roots = λ d m. lead-root (t .falling) c (root p c) h le own (λ r. r) i (λ d j o. refl) d ∙ t .roots d m;
         }
 
+-- and its cell has the root for its leader
+pub shorten-leads : {p : List ℕ} → Falling p → (c : ℕ) → c < length p → getD (shorten p c) c 0 ≡ root p c
+shorten-leads {p} f c k = elim (ℕ-discrete (getD p c 0) c) [
+  | yes e ↦ rw (shorten-own p c e, root-own p c e) e
+  | no n ↦
+      let l : getD p c 0 < length p = omega (arith, f .falls c) in
+      let q : List ℕ = shorten p (getD p c 0) in
+      rw (shorten-next f c n) (getD-set-same q c (root p c) 0 (omega (arith, shorten-stands (own-stands f) (getD p c 0) l .size)))
+]
+
 pub both-stand : {n : ℕ} {l : ℕ → ℕ} {p : List ℕ} → Stands n l p → (a b : ℕ) → a < n → b < n → Stands n l (shortenBoth p a b)
 unfolding shortenBoth
 both-stand s a b h k = shorten-stands (shorten-stands s a h) b k

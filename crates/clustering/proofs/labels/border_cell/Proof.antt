@@ -45,32 +45,41 @@ word-requires-2 c κs =
     let e = c .before .before .before .before .before .list-cells .ensures in
     omega (arith, few-listed s o e, room-listed s o e)
 
-reaches-requires : tie.Need-reaches-requires Inv-loop μ-loop
-reaches-requires c κs =
+root-box-requires : tie.Need-root-box-requires Inv-loop μ-loop
+root-box-requires c κs =
     let s = c .before .before .before .before .before .before .before .before .before .before .before .before .before .pre in
     let o = c .before .before .before .before .before .before .before .before .before .before .word .ensures in
     let e = c .before .before .before .before .before .before .before .before .list-cells .ensures in
-    can-ask s o e (c .before .before .before .before .loop-test .taken) (c .before .before .word2 .ensures)
+    let z = can-ask s o e (c .before .before .before .before .loop-test .taken) (c .before .before .word2 .ensures) in
+    (z .0, z .1, z .3)
+
+reaches-requires : tie.Need-reaches-requires Inv-loop μ-loop
+reaches-requires c κs =
+    let s = c .before .before .before .before .before .before .before .before .before .before .before .before .before .before .before .pre in
+    let o = c .before .before .before .before .before .before .before .before .before .before .before .before .word .ensures in
+    let e = c .before .before .before .before .before .before .before .before .before .before .list-cells .ensures in
+    let z = can-ask s o e (c .before .before .before .before .before .before .loop-test .taken) (c .before .before .before .before .word2 .ensures) in
+    (z .0, z .1, z .2, z .3, c .before .root-box .ensures)
 
 loop-less : tie.Need-loop-less Inv-loop μ-loop
 loop-less c = omega arith
 
 loop-again : tie.Need-loop-again Inv-loop μ-loop
 loop-again c =
-    let s = c .before .before .before .before .before .before .before .before .before .before .before .before .before .before .before .pre in
-    let o = c .before .before .before .before .before .before .before .before .before .before .before .before .word .ensures in
-    let e = c .before .before .before .before .before .before .before .before .before .before .list-cells .ensures in
-    lower s o e (c .before .before .before .before .before .before .loop-test .taken) (c .before .before .before .before .word2 .ensures) (c .before .before .before .before .before .before .before .loop .inv) (c .before .before .before .if1 .taken) (c .before .reaches .ensures) (c .if2 .taken)
+    let s = c .before .before .before .before .before .before .before .before .before .before .before .before .before .before .before .before .before .pre in
+    let o = c .before .before .before .before .before .before .before .before .before .before .before .before .before .before .word .ensures in
+    let e = c .before .before .before .before .before .before .before .before .before .before .before .before .list-cells .ensures in
+    lower s o e (c .before .before .before .before .before .before .before .before .loop-test .taken) (c .before .before .before .before .before .before .word2 .ensures) (c .before .before .before .before .before .before .before .before .before .loop .inv) (c .before .before .before .before .before .if1 .taken) (c .before .reaches .ensures) (c .if2 .taken)
 
 loop-less-2 : tie.Need-loop-less-2 Inv-loop μ-loop
 loop-less-2 c = omega arith
 
 loop-again-2 : tie.Need-loop-again-2 Inv-loop μ-loop
 loop-again-2 c =
-    let s = c .before .before .before .before .before .before .before .before .before .before .before .before .before .before .before .pre in
-    let o = c .before .before .before .before .before .before .before .before .before .before .before .before .word .ensures in
-    let e = c .before .before .before .before .before .before .before .before .before .before .list-cells .ensures in
-    no-count s o e (c .before .before .before .before .before .before .loop-test .taken) (c .before .before .before .before .word2 .ensures) (c .before .before .before .before .before .before .before .loop .inv) (c .before .reaches .ensures) (c .if2 .left)
+    let s = c .before .before .before .before .before .before .before .before .before .before .before .before .before .before .before .before .before .pre in
+    let o = c .before .before .before .before .before .before .before .before .before .before .before .before .before .before .word .ensures in
+    let e = c .before .before .before .before .before .before .before .before .before .before .before .before .list-cells .ensures in
+    no-count s o e (c .before .before .before .before .before .before .before .before .loop-test .taken) (c .before .before .before .before .before .before .word2 .ensures) (c .before .before .before .before .before .before .before .before .before .loop .inv) (c .before .reaches .ensures) (c .if2 .left)
 
 loop-less-3 : tie.Need-loop-less-3 Inv-loop μ-loop
 loop-less-3 c = omega arith
@@ -120,6 +129,7 @@ border-cell-spec =
     mul-word
     add-word
     word-requires-2
+    root-box-requires
     reaches-requires
     loop-less
     loop-again

@@ -24,8 +24,8 @@ mul-at c = omega arith
 add-at : tie.Need-add-at Inv-loop μ-loop
 add-at c = omega arith
 
-has-tree-requires : tie.Need-has-tree-requires Inv-loop μ-loop
-has-tree-requires c κs = omega (arith, fill-length (c .before .before .loop .inv .fill))
+is-core-cell-requires : tie.Need-is-core-cell-requires Inv-loop μ-loop
+is-core-cell-requires c κs = omega (arith, fill-length (c .before .before .loop .inv .fill))
 
 mul-word : tie.Need-mul-word Inv-loop μ-loop
 mul-word c = omega arith
@@ -53,7 +53,7 @@ loop-less c = omega arith
 
 loop-again : tie.Need-loop-again Inv-loop μ-loop
 loop-again c = number-own (c .before .before .before .before .before .before .before .loop .inv) (c .before .before .before .before .before .before .loop-test .taken)
-    (c .before .before .before .before .has-tree .ensures) (c .before .before .before .if1 .taken) (c .before .word .ensures) (c .if2 .taken)
+    (c .before .before .before .before .is-core-cell .ensures) (c .before .before .before .if1 .taken) (c .before .word .ensures) (c .if2 .taken)
 
 mul-work-2 : tie.Need-mul-work-2 Inv-loop μ-loop
 mul-work-2 c = omega arith
@@ -61,19 +61,19 @@ mul-work-2 c = omega arith
 add-work : tie.Need-add-work Inv-loop μ-loop
 add-work c =
     let l = lowest-low (c .before .before .before .before .before .before .before .loop .inv) (c .before .before .before .before .before .before .loop-test .taken)
-    (c .before .before .before .before .has-tree .ensures) (c .before .before .before .if1 .taken) (c .before .word .ensures) in
+    (c .before .before .before .before .is-core-cell .ensures) (c .before .before .before .if1 .taken) (c .before .word .ensures) in
     omega arith
 
 mul-work-3 : tie.Need-mul-work-3 Inv-loop μ-loop
 mul-work-3 c =
     let l = lowest-low (c .before .before .before .before .before .before .before .loop .inv) (c .before .before .before .before .before .before .loop-test .taken)
-    (c .before .before .before .before .has-tree .ensures) (c .before .before .before .if1 .taken) (c .before .word .ensures) in
+    (c .before .before .before .before .is-core-cell .ensures) (c .before .before .before .if1 .taken) (c .before .word .ensures) in
     omega arith
 
 slice-read-work : tie.Need-slice-read-work Inv-loop μ-loop
 slice-read-work c =
     let l = lowest-low (c .before .before .before .before .before .before .before .before .loop .inv) (c .before .before .before .before .before .before .before .loop-test .taken)
-    (c .before .before .before .before .before .has-tree .ensures) (c .before .before .before .before .if1 .taken) (c .before .before .word .ensures) in
+    (c .before .before .before .before .before .is-core-cell .ensures) (c .before .before .before .before .if1 .taken) (c .before .before .word .ensures) in
     omega (arith, fill-length (c .before .before .before .before .before .before .before .before .loop .inv .fill))
 
 mul-work-4 : tie.Need-mul-work-4 Inv-loop μ-loop
@@ -88,7 +88,7 @@ loop-less-2 c = omega arith
 loop-again-2 : tie.Need-loop-again-2 Inv-loop μ-loop
 loop-again-2 c = number-other (c .before .before .before .before .before .before .before .before .loop .inv)
     (c .before .before .before .before .before .before .before .loop-test .taken)
-    (c .before .before .before .before .before .has-tree .ensures) (c .before .before .before .before .if1 .taken) (c .before .before .word .ensures) (c .before .if2 .left)
+    (c .before .before .before .before .before .is-core-cell .ensures) (c .before .before .before .before .if1 .taken) (c .before .before .word .ensures) (c .before .if2 .left)
 
 mul-work-5 : tie.Need-mul-work-5 Inv-loop μ-loop
 mul-work-5 c = omega arith
@@ -100,7 +100,7 @@ loop-less-3 : tie.Need-loop-less-3 Inv-loop μ-loop
 loop-less-3 c = omega arith
 
 loop-again-3 : tie.Need-loop-again-3 Inv-loop μ-loop
-loop-again-3 c = number-none (c .before .before .before .before .loop .inv) (c .before .before .before .loop-test .taken) (c .before .has-tree .ensures) (c .if1 .left)
+loop-again-3 c = number-none (c .before .before .before .before .loop .inv) (c .before .before .before .loop-test .taken) (c .before .is-core-cell .ensures) (c .if1 .left)
 
 same-length : tie.Need-same-length Inv-loop μ-loop
 same-length c = fill-length (c .before .loop .inv .fill)
@@ -118,7 +118,7 @@ number-clusters-spec =
     add-next
     mul-at
     add-at
-    has-tree-requires
+    is-core-cell-requires
     mul-word
     add-word
     word-requires

@@ -4,20 +4,20 @@ use Rattle.clustering.proofs.Held.{tree-room, arranged-all, is-cell, no
 use Rattle.clustering.proofs.uniting.is_pair.Statement.{statement}
 use Rattle.clustering.proofs.uniting.is_pair.Tie as tie
 
-has-tree-requires : tie.Need-has-tree-requires
-has-tree-requires c κs = tree-room (c .before .pre .0) (c .before .pre .1) _ (c .before .pre .2)
+is-core-cell-requires : tie.Need-is-core-cell-requires
+is-core-cell-requires c κs = tree-room (c .before .pre .0) (c .before .pre .1) _ (c .before .pre .2)
 
 returns : tie.Need-returns
 returns c = no-first (c .before .before .before .pre .0) (c .before .before .before .pre .1) _ _ (c .before .before .before .pre .2) (c .before .before .before .pre .3)
-    (c .before .has-tree .ensures) (c .if1 .taken)
+    (c .before .is-core-cell .ensures) (c .if1 .taken)
 
-has-tree-requires-2 : tie.Need-has-tree-requires-2
-has-tree-requires-2 c κs = tree-room (c .before .before .before .pre .0) (c .before .before .before .pre .1) _ (c .before .before .before .pre .3)
+is-core-cell-requires-2 : tie.Need-is-core-cell-requires-2
+is-core-cell-requires-2 c κs = tree-room (c .before .before .before .pre .0) (c .before .before .before .pre .1) _ (c .before .before .before .pre .3)
 
 returns-2 : tie.Need-returns-2
 returns-2 c = no-second (c .before .before .before .before .before .pre .0) (c .before .before .before .before .before .pre .1) _ _
-    (c .before .before .before .before .before .pre .2) (c .before .before .before .before .before .pre .3) (c .before .before .before .has-tree .ensures)
-    (c .before .before .if1 .left) (c .before .has-tree2 .ensures) (c .if2 .taken)
+    (c .before .before .before .before .before .pre .2) (c .before .before .before .before .before .pre .3) (c .before .before .before .is-core-cell .ensures)
+    (c .before .before .if1 .left) (c .before .is-core-cell2 .ensures) (c .if2 .taken)
 
 is-listed-requires : tie.Need-is-listed-requires
 is-listed-requires c κs =
@@ -27,9 +27,9 @@ is-listed-requires c κs =
 returns-3 : tie.Need-returns-3
 returns-3 c = c .is-listed .ensures ∙ by-list (c .before .before .before .before .before .before .pre .0) (c .before .before .before .before .before .before .pre .1) _ _
     (c .before .before .before .before .before .before .pre .2) (c .before .before .before .before .before .before .pre .3)
-    (c .before .before .before .before .has-tree .ensures) (c .before .before .before .if1 .left) (c .before .before .has-tree2 .ensures) (c .before .if2 .left)
+    (c .before .before .before .before .is-core-cell .ensures) (c .before .before .before .if1 .left) (c .before .before .is-core-cell2 .ensures) (c .before .if2 .left)
 
 pub is-pair-spec : {M : Type 1} → statement M
 is-pair-spec =
     tie.close
-    (tie.spec has-tree-requires returns has-tree-requires-2 returns-2 is-listed-requires returns-3)
+    (tie.spec is-core-cell-requires returns is-core-cell-requires-2 returns-2 is-listed-requires returns-3)

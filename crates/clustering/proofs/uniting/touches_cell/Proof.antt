@@ -8,27 +8,30 @@ use Rattle.clustering.proofs.uniting.touches_cell.Statement.{statement}
 use Rattle.clustering.proofs.uniting.touches_cell.Tie as tie
 
 abbrev Inv-loop : tie.InvT-loop
-Inv-loop points v n k work c d end p₀ p = Touching (geometryAt v n points) work n end c d p
+Inv-loop points v n k work c d root end p₀ p = Touching (geometryAt v n points) work n end c d p
 
 abbrev μ-loop : tie.MeasureT-loop
-μ-loop points v n k work c d end p₀ p = end - p
+μ-loop points v n k work c d root end p₀ p = end - p
+
+root-box-requires : tie.Need-root-box-requires Inv-loop μ-loop
+root-box-requires c κs = (c .before .pre .0, c .before .pre .1, c .before .pre .3)
 
 cell-end-requires : tie.Need-cell-end-requires Inv-loop μ-loop
 cell-end-requires c κs =
-    let s = c .before .pre in
+    let s = c .before .before .pre in
     (s .2, few-cells (s .0) (s .1), omega (arith, room (s .0) (s .1)))
 
 mul-word : tie.Need-mul-word Inv-loop μ-loop
 mul-word c = omega arith
 
 add-word : tie.Need-add-word Inv-loop μ-loop
-add-word c = omega (arith, few-cells (c .before .before .pre .0) (c .before .before .pre .1), room (c .before .before .pre .0) (c .before .before .pre .1))
+add-word c = omega (arith, few-cells (c .before .before .before .pre .0) (c .before .before .before .pre .1), room (c .before .before .before .pre .0) (c .before .before .before .pre .1))
 
 word-requires : tie.Need-word-requires Inv-loop μ-loop
-word-requires c κs = omega (arith, few-cells (c .before .before .pre .0) (c .before .before .pre .1), room (c .before .before .pre .0) (c .before .before .pre .1))
+word-requires c κs = omega (arith, few-cells (c .before .before .before .pre .0) (c .before .before .before .pre .1), room (c .before .before .before .pre .0) (c .before .before .before .pre .1))
 
 loop-holds : tie.Need-loop-holds Inv-loop μ-loop
-loop-holds c = touch-start (c .before .before .before .pre .0) (c .before .before .before .pre .1) _ _ (c .before .before .before .pre .2) _ _
+loop-holds c = touch-start (c .before .before .before .before .pre .0) (c .before .before .before .before .pre .1) _ _ (c .before .before .before .before .pre .2) _ _
     (c .before .cell-end .ensures) (c .word .ensures)
 
 add-next : tie.Need-add-next Inv-loop μ-loop
@@ -48,8 +51,8 @@ is-core-requires c κs = (frame-low (c .before .before .loop .inv) (c .before .l
 
 reaches-requires : tie.Need-reaches-requires Inv-loop μ-loop
 reaches-requires c κs =
-    let s = c .before .before .before .before .before .before .before .before .pre in
-    (s .0, s .1, frame-low (c .before .before .before .before .loop .inv) (c .before .before .before .loop-test .taken) (c .before .before .word2 .ensures), s .3)
+    let s = c .before .before .before .before .before .before .before .before .before .pre in
+    (s .0, s .1, frame-low (c .before .before .before .before .loop .inv) (c .before .before .before .loop-test .taken) (c .before .before .word2 .ensures), s .3, c .before .before .before .before .before .before .before .root-box .ensures)
 
 returns : tie.Need-returns Inv-loop μ-loop
 returns c =
@@ -79,6 +82,7 @@ touches-cell-spec =
     (tie.spec
     Inv-loop
     μ-loop
+    root-box-requires
     cell-end-requires
     mul-word
     add-word

@@ -2,13 +2,12 @@
 use Prim.Native.Nat.{_-_}
 use native.Mathlib.Omega.{arith}
 use Rattle.counting_tree.specs.Ready.{geometryAt}
-use Rattle.cells_grid.specs.Listing.{listOf}
 use Rattle.clustering.proofs.ByLists.{Listing, listing-start, next-each, listing-on, listing-end}
 use Rattle.clustering.proofs.uniting.unite_list.Statement.{statement}
 use Rattle.clustering.proofs.uniting.unite_list.Tie as tie
 
 abbrev Inv-loop : tie.InvT-loop
-Inv-loop points v n k work₀ c m j₀ work j = Listing (geometryAt v n points) n k work₀ work c m (listOf v n points c) j
+Inv-loop points v n k work₀ c m j₀ work j = Listing (geometryAt v n points) n k work₀ work c m j
 
 abbrev μ-loop : tie.MeasureT-loop
 μ-loop points v n k work₀ c m j₀ work j = m - j
@@ -16,7 +15,7 @@ abbrev μ-loop : tie.MeasureT-loop
 loop-holds : tie.Need-loop-holds Inv-loop μ-loop
 loop-holds c =
     let s = c .before .pre in
-    listing-start (s .0 .0) (s .0 .1) _ _ (s .0 .2) (s .1 .1 .0) (s .1 .0 .0) (s .1 .0 .1) (s .1 .1 .1 .0) (s .1 .1 .1 .1)
+    listing-start (s .0 .0) (s .0 .1) (s .0 .2) (s .0 .3) (s .1 .0 .0) (s .1 .0 .1) (s .1 .1)
 
 mul-word : tie.Need-mul-word Inv-loop μ-loop
 mul-word c = omega arith
