@@ -9,7 +9,7 @@ use lib.ListN.{length, getD}
 use Rattle.lists.specs.Lists.{numbers, keep, any, howMany, headOr, total, In, Ascending, nonzero}
 use Rattle.lists.specs.ListLaws.{true-T, both-ways, keep-in, in-keep, keep-same, head-in, head-same, numbers-in, in-numbers, in-nonzero, some-in}
 use Rattle.lists.specs.CountLaws.{keep-keep, keep-none, total-same, total-swap, total-bool}
-use Rattle.lists.specs.OrderLaws.{numbers-ascending, keep-ascending, head-lowest, once, rank-at, rank-less}
+use Rattle.lists.specs.OrderLaws.{numbers-ascending, keep-ascending, head-lowest, once, rank-at}
 use Rattle.counting_tree.specs.Tree.{counted}
 use Rattle.counting_tree.specs.Paths.{reaches, node-path}
 use Rattle.counting_tree.specs.Geometry.{Geometry}
@@ -143,11 +143,6 @@ module _ (g : Geometry) (L : Lawful g) where
   pub number-cell : (i d : ℕ) → i < g .frames → getD (cells g) (cellNumber g i) d ≡ first g i
   unfolding cellNumber
   number-cell i d h = rank-at d (cells g) (cells-ascending g) (first-cell i h)
-
-  -- a cell that begins earlier has the lower number
-  pub number-order : (i j : ℕ) → i < g .frames → first g i < first g j → cellNumber g i < cellNumber g j
-  unfolding cellNumber
-  number-order i j h l = rank-less (first g i) (first g j) (cells g) (first-cell i h) l
 
   pub number-same : (i j : ℕ) → i < g .frames → j < g .frames → (cellNumber g i ≡ cellNumber g j) ↔ T (sameCell g i j)
   unfolding cellNumber

@@ -51,10 +51,6 @@ module _ (w : List ℕ) (a m : ℕ) where
   free-of : (d : ℕ) → (getD w (a + d) 0 ≡ m → ⊥) → T (free d)
   free-of d h = true-T (ap not (ne-eqb (getD w (a + d) 0) m h))
 
-  pub unmarked-in : (d : ℕ) (ds : List ℕ) → In d ds → (getD w (a + d) 0 ≡ m → ⊥) → In d (unmarked w a m ds)
-  unfolding unmarked
-  unmarked-in d ds i h = keep-in free d ds i (free-of d h)
-
   pub in-unmarked : (d : ℕ) (ds : List ℕ) → In d (unmarked w a m ds) → In d ds × (getD w (a + d) 0 ≡ m → ⊥)
   unfolding unmarked
   in-unmarked d ds i =
@@ -189,10 +185,6 @@ module _ {ps : List ℤ} {v : ValidParams} {n : ℕ} (r : Ready ps v n) where
       pub unmarked-cleared : (w : List ℕ) → 16 * n ≤ length w → Clear w (15 * n) n
           → over (over w (15 * n) (unmarked u a m (listOf v n ps c))) (15 * n) (replicate (length (unmarked u a m (listOf v n ps c))) 0) ≡ w
       unmarked-cleared w l z = few-cleared w (unmarked u a m (listOf v n ps c)) unmarked-length l z
-
-      -- words laid where lists are written change nothing
-      pub unmarked-under : (b : ℕ) (ws : List ℕ) → a + n ≤ b → b ≤ length u → unmarked (over u b ws) a m (listOf v n ps c) ≡ unmarked u a m (listOf v n ps c)
-      unmarked-under b ws = unmarked-over u a m n b ws (listOf v n ps c) (λ d i. omega (arith, list-sound d i .0, few))
 
   -- ---- the hashed cells
   abbrev p : ℕ → Bool

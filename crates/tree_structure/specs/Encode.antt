@@ -8,10 +8,9 @@ use native.Mathlib.Omega.{arith}
 use native.Mathlib.Nat.{mul-suc}
 use lib.ListN.{length}
 use Rattle.lists.specs.Lists.{headOr, total, concat, In, Below, groups}
-use Rattle.lists.specs.Words.{over, part}
+use Rattle.lists.specs.Words.{part}
 use Rattle.lists.specs.CountLaws.{total-same, total-times, total-le, length-concat}
 use Rattle.lists.specs.GroupLaws.{groups-length, group-some}
-use Rattle.lists.specs.PartLaws.{part-same}
 use Rattle.tree_structure.specs.declared.Counted.{Counted}
 
 abbrev pub Same : Type 0
@@ -74,7 +73,3 @@ module _ (same : Same) where
       let a : total (size same k (suc l)) gs ≤ length xs * (k + 1) =
       rw groups-length at (total-le (size same k (suc l)) length (k + 1) gs (λ g i. size-le k (suc l) g (group-some (same (suc l)) g xs i))) in
       omega (arith, mul-suc (length xs) (k + 1))
-
-  -- a tree that was written can be asked
-  pub tree-laid : {n : ℕ} {xs : List ℕ} (k l at : ℕ) (w : List ℕ) → Node n xs → at ≤ length w → TreeAt same n (over w at (encode same k l xs)) at k l xs
-  tree-laid {n} {xs} k l at w h f = record { node = h; words = part-same w at (length (encode same k l xs)) (encode same k l xs) f refl }
