@@ -312,6 +312,11 @@ fn main() {
         let c = sets::many(&mut rng, n);
         run.try_call(&c);
     }
+    run.begin("cells with more than 1,024 frames");
+    for _ in 0..(40 / part).max(1) {
+        let c = sets::large(&mut rng);
+        run.try_call(&c);
+    }
     // the function for the work words, on the whole domain and past its ends
     let past = [4097, 5000, 65536, 1 << 32, usize::MAX];
     let powers = [11, 12, 64, 255, 1 << 32, usize::MAX];

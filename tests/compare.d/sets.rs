@@ -485,6 +485,33 @@ pub fn many(rng: &mut Random, n: usize) -> Call {
     call(rng, channels, m, t, s, &frames)
 }
 
+/// Two or three cells with more than 1,024 frames each, about t to 2 t apart, and frames about the far reach of them: their trees are asked.
+pub fn large(rng: &mut Random) -> Call {
+    let (channels, t, s) = (1 + rng.below(4), rng.range(40, 4000), rng.below(11));
+    let (side, far) = (t as f64 / root(channels), far_reach(t, s));
+    let mut frames: Vec<Frame> = Vec::new();
+    for c in 0..2 + rng.below(2) {
+        let middle: Vec<f64> = (0..channels)
+            .map(|_| if c == 0 { 0.0 } else { rng.range(-2, 2) as f64 * side })
+            .collect();
+        let spread = rng.pick(&[0.02, 0.1, 0.45]) * side;
+        for _ in 0..1025 + rng.below(320) {
+            frames.push(middle.iter().map(|x| clip(x + rng.between(-spread, spread))).collect());
+        }
+    }
+    for _ in 0..40 {
+        let p = frames[rng.below(frames.len())].clone();
+        let (total, up) = rng.pick(&[(t * t, false), (t * t + 1, true), (far, false), (far + 1, true), (9 * t * t / 4, true)]);
+        let q = beside(rng, &p, total, up);
+        frames.push(q.into_iter().map(|x| x.clamp(-32768, 32767)).collect());
+    }
+    if rng.below(2) == 0 {
+        rng.shuffle(&mut frames);
+    }
+    let m = rng.pick(&[2, 8, 1000]);
+    call(rng, channels, m, t, s, &frames)
+}
+
 /// Settings and lengths of every sort, refused ones most often, several at once.
 pub fn table(rng: &mut Random) -> Call {
     let s = rng.below(11);
