@@ -1,4 +1,4 @@
--- The loops that copy words and that make them 0.
+-- The loops that copy words and that fill them.
 use mathlib.Core.Path.{_≡_, ap, _∙_}
 use mathlib.Core.Logic.{_⊎_, inl, inr}
 use mathlib.Core.List.{List}
@@ -19,5 +19,5 @@ copy-read {w₀} {v} {from} {to} {m} {i} d c h =
     ap (λ (z : List ℕ). getD z (from + i) 0) (c .work)
     ∙ elim d [ inl p ↦ get-above w₀ to (from + i) ws (omega arith) f | inr p ↦ get-under w₀ to (from + i) ws (omega arith) f ]
 
-pub clear-end : {w₀ v : List ℕ} {a m i : ℕ} → Fill (λ j. 0) w₀ a m v i → m ≤ i → v ≡ over w₀ a (replicate m 0)
-clear-end {w₀} {v} {a} {m} c e = fill-end c e ∙ ap (over w₀ a) (column-replicate 0 m)
+pub filled-end : {w₀ v : List ℕ} {a m i : ℕ} (x : ℕ) → Fill (λ j. x) w₀ a m v i → m ≤ i → v ≡ over w₀ a (replicate m x)
+filled-end {w₀} {v} {a} {m} x c e = fill-end c e ∙ ap (over w₀ a) (column-replicate x m)

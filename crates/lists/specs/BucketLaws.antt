@@ -1,8 +1,8 @@
 -- Laws of hash buckets: hashes and buckets are in range, chains go on with one number more and under writing elsewhere, and a chain is walked from its latest number down.
-use mathlib.Core.Path.{_≡_, refl, sym, ap, subst, _∙_}
+use mathlib.Core.Path.{_≡_, refl, sym, ap, ap₂, subst, _∙_}
 use mathlib.Core.Logic.{_⊎_, inl, inr}
 use mathlib.Core.Bool.{Bool, true, false, cond}
-use mathlib.Core.List.{List, [], _∷_, _++_, append-nil, List·Permᴰ, List·Permᴰ·nil, List·Permᴰ·cons, List·Permᴰ·trans, Permᴰ·symm, Permᴰ·middle}
+use mathlib.Core.List.{List, [], _∷_}
 use Prim.Native.Nat.{ℕ, zero, suc, _+_, _*_, _/_, _^_, _<_, _≤_}
 use native.Mathlib.Nat.{eq-or-lt-of-le, le-of-suc-le-suc, mod-lt, div-lt-iff-lt-mul, mul-lt-mul-of-pos-right, mul-le-mul, lt-of-le-of-lt, mul-comm, add-zero}
 use native.Mathlib.Numerals.{add-one}
@@ -10,13 +10,11 @@ use native.Mathlib.Decide.{ℕ-discrete, decLt}
 use native.Mathlib.Omega.{arith}
 use lib.Dec.{T, eqb, eqb→eq, eqb-refl}
 use lib.ListN.{length, getD}
-use Rattle.lists.specs.Lists.{numbers, keep}
 use Rattle.lists.specs.Words.{over, Clear}
 use Rattle.lists.specs.ListLaws.{true-T, T-true, T-false}
-use Rattle.lists.specs.OrderLaws.{kept-snoc}
 use Rattle.lists.specs.WordLaws.{over-length}
 use Rattle.lists.specs.PartLaws.{get-under, get-laid, get-above}
-use Rattle.lists.specs.Buckets.{lastWith, keepDown, hashes, mix, hashFrom, bucket, inBucket, Bucketed}
+use Rattle.lists.specs.Buckets.{lastWith, hashes, mix, hashFrom, hashOf, bucket, inBucket, Bucketed}
 
 -- ---- hashes and buckets are in range
 pub mix-below : (h e : ℕ) → mix h e < hashes
@@ -27,6 +25,14 @@ pub hash-below : (h : ℕ) (es : List ℕ) → h < hashes → hashFrom h es < ha
 hash-below h [] l = l
 hash-below h (e ∷ es) l = hash-below (mix h e) es (mix-below h e)
 
+pub four-hash : (l : List ℕ) → length l ≡ 4 → {a b c d : ℕ} → a ≡ mix 0 (getD l 0 0) → b ≡ mix a (getD l 1 0) → c ≡ mix b (getD l 2 0) → d ≡ mix c (getD l 3 0) → d ≡ hashOf l
+four-hash [] e p q r s = absurd (omega arith)
+four-hash (x ∷ []) e p q r s = absurd (omega arith)
+four-hash (x ∷ y ∷ []) e p q r s = absurd (omega arith)
+four-hash (x ∷ y ∷ z ∷ []) e p q r s = absurd (omega arith)
+four-hash (x ∷ y ∷ z ∷ u ∷ []) e p q r s = s ∙ ap (λ (h : ℕ). mix h u) (r ∙ ap (λ (h : ℕ). mix h z) (q ∙ ap (λ (h : ℕ). mix h y) p))
+four-hash (x ∷ y ∷ z ∷ u ∷ v ∷ l) e p q r s = absurd (omega arith)
+
 pub bucket-below : (n h : ℕ) → h < hashes → 0 < n → bucket n h < n
 unfolding bucket
 bucket-below n h l p = div-lt-iff-lt-mul {k = hashes} (omega arith) .1 (subst (λ (x : ℕ). h * n < x) (mul-comm hashes n) (mul-lt-mul-of-pos-right l p))
@@ -34,7 +40,7 @@ bucket-below n h l p = div-lt-iff-lt-mul {k = hashes} (omega arith) .1 (subst (�
 pub product-fits : (h n : ℕ) → h < hashes → n < hashes → h * n < 2 ^ 64
 product-fits h n a b = lt-of-le-of-lt (mul-le-mul {n₂ = 4294967295} {m₂ = 4294967295} (omega arith) (omega arith)) (omega arith)
 
--- ---- the numbers that pass, from the greatest down
+-- ---- the greatest number that passes
 module _ (f : ℕ → Bool) where
   pub last-le : (m : ℕ) → lastWith f m ≤ m
   last-le zero = omega arith
@@ -79,53 +85,34 @@ module _ (f : ℕ → Bool) where
       go true q r = last-at m (true-T q)
       go false q r = r
 
-  -- below the greatest and one there are the same numbers
-  pub keep-last : (m : ℕ) → keepDown f (lastWith f m) ≡ keepDown f m
-  keep-last zero = refl
-  keep-last (suc m) = go (f m) refl (keep-last m)
-    where
-      go : (b : Bool) → f m ≡ b → keepDown f (lastWith f m) ≡ keepDown f m → keepDown f (cond b (suc m) (lastWith f m)) ≡ cond b (m ∷ keepDown f m) (keepDown f m)
-      go true q r = rw q
-      go false q r = r
+-- what passes f passes b too: so the greatest that passes f is among those up to the greatest that passes b
+pub last-within : (f b : ℕ → Bool) → ((c : ℕ) → T (f c) → T (b c)) → (m : ℕ) → lastWith f (lastWith b m) ≡ lastWith f m
+last-within f b e zero = refl
+last-within f b e (suc m) = go (b m) refl (last-within f b e m)
+  where
+    go : (t : Bool) → b m ≡ t → lastWith f (lastWith b m) ≡ lastWith f m → lastWith f (cond t (suc m) (lastWith b m)) ≡ cond (f m) (suc m) (lastWith f m)
+    go true q r = refl
+    go false q r = r ∙ sym (ap (λ (t : Bool). cond t (suc m) (lastWith f m)) (T-false (f m) (λ t. subst T q (e m t))))
 
-  pub keep-at : (c : ℕ) → T (f c) → keepDown f (suc c) ≡ c ∷ keepDown f c
-  keep-at c t = rw (T-true (f c) t)
+pub last-same : (f h : ℕ → Bool) (m : ℕ) → ((c : ℕ) → c < m → f c ≡ h c) → lastWith f m ≡ lastWith h m
+last-same f h zero e = refl
+last-same f h (suc m) e = ap₂ (λ (t : Bool) (x : ℕ). cond t (suc m) x) (e m (omega arith)) (last-same f h m (λ c l. e c (omega arith)))
 
-  -- the same numbers as ascending
-  pub down-perm : (m : ℕ) → List·Permᴰ (keepDown f m) (keep f (numbers m))
-  down-perm zero = List·Permᴰ·nil
-  down-perm (suc m) = subst (List·Permᴰ (keepDown f (suc m))) (sym (kept-snoc f m) ∙ ap (λ (k : ℕ). keep f (numbers k)) (add-one m)) (go (f m) (down-perm m))
-    where
-      go : (b : Bool) → List·Permᴰ (keepDown f m) (keep f (numbers m)) → List·Permᴰ (cond b (m ∷ keepDown f m) (keepDown f m)) (keep f (numbers m) ++ cond b (m ∷ []) [])
-      go true p = List·Permᴰ·trans (List·Permᴰ·cons refl p) (subst (λ (l : List ℕ). List·Permᴰ (m ∷ l) (keep f (numbers m) ++ (m ∷ []))) (append-nil (keep f (numbers m))) (Permᴰ·symm (Permᴰ·middle m (keep f (numbers m)) [])))
-      go false p = subst (List·Permᴰ (keepDown f m)) (sym (append-nil (keep f (numbers m)))) p
-
--- ---- a walk: e is 0, or one more than a number below m that passes; `keepDown f e` is what is still to come
+-- ---- a walk: e is 0, or one more than a number below m that passes
 pub record Walk (f : ℕ → Bool) (m e : ℕ) : Type 0 where
   pub low : e ≤ m
   pub at : lastWith f e ≡ e
 
 module _ {f : ℕ → Bool} {m : ℕ} where
-  pub walk-start : {e : ℕ} → e ≡ lastWith f m → Walk f m e × (keepDown f e ≡ keepDown f m)
-  walk-start {e} q = (record { low = omega (arith, q, last-le f m); at = ap (lastWith f) q ∙ last-last f m ∙ sym q }, ap (keepDown f) q ∙ keep-last f m)
+  pub walk-start : {e : ℕ} → e ≡ lastWith f m → Walk f m e
+  walk-start {e} q = record { low = omega (arith, q, last-le f m); at = ap (lastWith f) q ∙ last-last f m ∙ sym q }
 
-  module _ {e : ℕ} (W : Walk f m e) where
-    pub walk-end : e ≡ 0 → keepDown f e ≡ []
-    walk-end q = ap (keepDown f) q
+  module _ {e : ℕ} (W : Walk f m e) (c : ℕ) (q : e ≡ c + 1) where
+    walk-hit : T (f c)
+    walk-hit = last-hit f e c (W .at ∙ q ∙ add-one c)
 
-    module _ (c : ℕ) (q : e ≡ c + 1) where
-      pub walk-hit : T (f c)
-      walk-hit = last-hit f e c (W .at ∙ q ∙ add-one c)
-
-      pub walk-cons : keepDown f e ≡ c ∷ keepDown f c
-      walk-cons = ap (keepDown f) (q ∙ add-one c) ∙ keep-at f c walk-hit
-
-      pub walk-next : {x : ℕ} → x ≡ lastWith f c → Walk f m x × (x ≤ c) × (keepDown f x ≡ keepDown f c)
-      walk-next {x} p = (
-        record { low = omega (arith, p, last-le f c, W .low); at = ap (lastWith f) p ∙ last-last f c ∙ sym p },
-        omega (arith, p, last-le f c),
-        ap (keepDown f) p ∙ keep-last f c,
-      )
+    pub walk-next : {x : ℕ} → x ≡ lastWith f c → Walk f m x × (x ≤ c)
+    walk-next {x} p = (record { low = omega (arith, p, last-le f c, W .low); at = ap (lastWith f) p ∙ last-last f c ∙ sym p }, omega (arith, p, last-le f c))
 
 -- ---- the words
 -- a word that is not written over
@@ -146,6 +133,16 @@ module _ {bucketOf : ℕ → ℕ} {n m heads nexts : ℕ} {w : List ℕ} (B : Bu
   bucketed-over b ws l p q = record {
     head = λ h k. get-apart w b (heads + h) ws l (elim p [ inl z ↦ inl (omega arith) | inr z ↦ inr (omega arith) ]) ∙ B .head h k;
     next = λ c k u. get-apart w b (nexts + c) ws l (elim q [ inl z ↦ inl (omega arith) | inr z ↦ inr (omega arith) ]) ∙ B .next c k u;
+  }
+
+  -- other names for the same buckets
+  pub bucketed-same : (h : ℕ → ℕ) → ((c : ℕ) → c < m → bucketOf c ≡ h c) → Bucketed h n m heads nexts w
+  bucketed-same h e = record {
+    head = λ j k. B .head j k ∙ last-same (inBucket bucketOf j) (inBucket h j) m (λ c l. ap (λ (x : ℕ). eqb x j) (e c l));
+    next = λ c l u.
+        B .next c l (omega (arith, e c l))
+        ∙ ap (λ (x : ℕ). lastWith (inBucket bucketOf x) c) (e c l)
+        ∙ last-same (inBucket bucketOf (h c)) (inBucket h (h c)) c (λ d q. ap (λ (x : ℕ). eqb x (h c)) (e d (omega arith)));
   }
 
   -- the number m is put in its bucket, as `push` does
@@ -192,14 +189,8 @@ module _ {bucketOf : ℕ → ℕ} {n m heads nexts : ℕ} {w : List ℕ} (B : Bu
     pub bucketed-push : {v : List ℕ} → v ≡ w₂ → Bucketed bucketOf n (m + 1) heads nexts v
     bucketed-push e = subst (Bucketed bucketOf n (m + 1) heads nexts) (sym e) (record { head = new-head; next = new-next })
 
-  -- ---- a bucket is walked
-  module _ (h : ℕ) where
-    -- from its head
-    pub bucket-start : h < n → {x : ℕ} → x ≡ getD w (heads + h) 0 → Walk (inBucket bucketOf h) m x × (keepDown (inBucket bucketOf h) x ≡ keepDown (inBucket bucketOf h) m)
-    bucket-start l q = walk-start (q ∙ B .head h l)
-
-    -- and on from c
-    pub bucket-next : h < n → {e : ℕ} (c : ℕ) → Walk (inBucket bucketOf h) m e → e ≡ c + 1 → {x : ℕ} → x ≡ getD w (nexts + c) 0 → x ≡ lastWith (inBucket bucketOf h) c
-    bucket-next l c W q p =
-        let e : bucketOf c ≡ h = eqb→eq (bucketOf c) h (walk-hit W c q) in
-        p ∙ B .next c (omega (arith, W .low)) (omega arith) ∙ ap (λ (y : ℕ). lastWith (inBucket bucketOf y) c) e
+  -- a bucket is walked: on from c
+  pub bucket-next : (h : ℕ) → h < n → {e : ℕ} (c : ℕ) → Walk (inBucket bucketOf h) m e → e ≡ c + 1 → {x : ℕ} → x ≡ getD w (nexts + c) 0 → x ≡ lastWith (inBucket bucketOf h) c
+  bucket-next h l c W q p =
+      let e : bucketOf c ≡ h = eqb→eq (bucketOf c) h (walk-hit W c q) in
+      p ∙ B .next c (omega (arith, W .low)) (omega arith) ∙ ap (λ (y : ℕ). lastWith (inBucket bucketOf y) c) e

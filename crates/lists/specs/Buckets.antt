@@ -11,17 +11,12 @@ abbrev pub lastWith : (ℕ → Bool) → ℕ → ℕ
 lastWith f zero = 0
 lastWith f (suc m) = let r = lastWith f m in cond (f m) (suc m) r
 
--- the numbers below m that pass f, descending
-abbrev pub keepDown : (ℕ → Bool) → ℕ → List ℕ
-keepDown f zero = []
-keepDown f (suc m) = let r = keepDown f m in cond (f m) (m ∷ r) r
-
 -- hashes are below 2^32
 abbrev pub hashes : ℕ
 hashes = 4294967296
 
 -- a hash of one more number e, after Fibonacci hashing: 1640531527 is near 2^32 × (1 − 1 / the golden ratio). The lowest digits of the product are dropped:
--- with them the hash would be a linear form in the numbers, and the blocks of a grid would fall in few buckets.
+-- with them the hash would be a linear form in the numbers, and the cells of a grid would fall in few buckets.
 unfoldable pub mix : ℕ → ℕ → ℕ
 mix h e = (h + e) * 1640531527 / 64 % hashes
 

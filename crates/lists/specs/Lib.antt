@@ -12,3 +12,5 @@ pub mod Chains
 pub mod PermLaws
 pub mod Buckets
 pub mod BucketLaws
+pub mod Sorting
+pub mod SortLaws

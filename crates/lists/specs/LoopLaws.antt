@@ -16,7 +16,7 @@ use Rattle.lists.specs.ListLaws.{true-T, T-true, T-false, and-left, and-
 use Rattle.lists.specs.CountLaws.{keep-none, howMany-cons}
 use Rattle.lists.specs.OrderLaws.{numbers-ascending, keep-ascending, head-lowest}
 use Rattle.lists.specs.WordLaws.{over-length, over-nil, over-snoc}
-use Rattle.lists.specs.PartLaws.{part-under, part-first, column-snoc, column-part}
+use Rattle.lists.specs.PartLaws.{part-under, part-step, column-snoc, column-part}
 
 -- ---- what is left of the numbers
 pub rest-start : (n : ℕ) → rest n 0 ≡ numbers n
@@ -97,10 +97,7 @@ scan-start {f} {w} {base} {end} {p} h l e = record { fit = h; high = l; low = om
 module _ {f : ℕ → Bool} {w : List ℕ} {base end all m p : ℕ} (s : Scan f w base end all m p) where
   module _ (l : p < end) where
     first : part w (base + p) (end - p) ≡ getD w (base + p) 0 ∷ part w (base + (p + 1)) (end - (p + 1))
-    first =
-        let e : end - p ≡ end - (p + 1) + 1 = omega arith in
-        let q : base + p + 1 ≡ base + (p + 1) = omega arith in
-        ap (part w (base + p)) e ∙ part-first w (base + p) (end - (p + 1)) (omega (arith, s .fit)) ∙ ap (λ (a : ℕ). getD w (base + p) 0 ∷ part w a (end - (p + 1))) q
+    first = part-step w base end p (s .fit) l
 
     left : (b : Bool) → f (getD w (base + p) 0) ≡ b → howMany f (part w (base + p) (end - p)) ≡ cond b 1 0 + howMany f (part w (base + (p + 1)) (end - (p + 1)))
     left b t = ap (howMany f) first ∙ howMany-cons f (getD w (base + p) 0) (part w (base + (p + 1)) (end - (p + 1))) ∙ ap (λ (a : Bool). cond a 1 0 + howMany f (part w (base + (p + 1)) (end - (p + 1)))) t

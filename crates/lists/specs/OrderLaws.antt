@@ -4,17 +4,17 @@ use mathlib.Core.Logic.{inl, inr}
 use mathlib.Core.Bool.{Bool, true, false, _&&_, cond, and-true, and-false}
 use mathlib.Core.List.{List, [], _∷_, _++_, append-nil}
 use Prim.Native.Nat.{ℕ, zero, suc, _+_, _-_, _%_, _≤_, _<_}
-use native.Mathlib.Nat.{le-of-eq, le-of-suc-le-suc, not-suc-le-zero, le-of-lt, lt-trans, lt-irrefl, add-zero, zero-add, mod-eq-of-lt, add-mod-right}
+use native.Mathlib.Nat.{le-of-eq, le-of-suc-le-suc, not-suc-le-zero, le-of-lt, add-zero, zero-add, mod-eq-of-lt, add-mod-right}
 use native.Mathlib.Numerals.{add-one}
 use native.Mathlib.Omega.{arith}
 use lib.Dec.{T, eqb, ltb, ltb→lt, lt→ltb, eqb→eq, eqb-refl}
 use lib.ListN.{length, getD, length-append}
 use Rattle.lists.specs.Lists.{from, numbers, keep, lose, howMany, total, headOr, In, Below, Ascending}
 use Rattle.lists.specs.ListLaws.{T-true, T-false, in-keep, in-lose, at-in, keep-same, in-from, in-numbers, length-from}
-use Rattle.lists.specs.CountLaws.{keep-append, keep-le, keep-none, keep-fewer, total-append}
+use Rattle.lists.specs.CountLaws.{keep-append, keep-le, keep-none, total-append}
 
 -- ---- numbers after numbers
-from-add : (a m n : ℕ) → from a (m + n) ≡ from a m ++ from (a + m) n
+pub from-add : (a m n : ℕ) → from a (m + n) ≡ from a m ++ from (a + m) n
 from-add a zero n = let e : a ≡ a + 0 = omega arith in ap₂ from e (zero-add n)
 from-add a (suc m) n =
     let e : suc m + n ≡ suc (m + n) = omega arith in
@@ -57,7 +57,7 @@ module _ (f : ℕ → Bool) where
       ∙ rw (and-false (f (r + k))) (append-nil (keep f (numbers r)))
 
 -- ---- the numbers below i, then the others
-numbers-split : (i n : ℕ) → i ≤ n → numbers n ≡ numbers i ++ from i (n - i)
+pub numbers-split : (i n : ℕ) → i ≤ n → numbers n ≡ numbers i ++ from i (n - i)
 numbers-split i n h =
     let e : n ≡ i + (n - i) = omega arith in
     ap numbers e ∙ from-add 0 i (n - i) ∙ ap (λ (a : ℕ). numbers i ++ from a (n - i)) (zero-add i)
@@ -169,7 +169,3 @@ at-rank d (x ∷ xs) (suc i) a h =
     let y = getD xs i d in
     let l : i < length xs = le-of-suc-le-suc h in
     rw (T-true (ltb x y) (lt→ltb x y (a .0 y (at-in d xs i l)))) (ap suc (at-rank d xs i (a .1) l))
-
--- a lower element has the lower place
-pub rank-less : (x y : ℕ) (xs : List ℕ) → In x xs → x < y → howMany (λ c. ltb c x) xs < howMany (λ c. ltb c y) xs
-rank-less x y xs i h = keep-fewer (λ c. ltb c x) (λ c. ltb c y) x xs (λ c j t. lt→ltb c y (lt-trans (ltb→lt c x t) h)) i (λ t. lt-irrefl x (ltb→lt x x t)) (lt→ltb x y h)

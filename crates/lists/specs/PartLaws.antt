@@ -11,7 +11,7 @@ use lib.ListN.{length, take, drop, getD, set, replicate, length-set, length-drop
 use lib.Seq.{getD-drop, getD-take, drop-drop, drop-at, take-at, drop-cons, length-take-le, take-append-le, take-take, take-add, take-nil, ext-getD, slice}
 use lib.Seq.{getD-set-same, getD-set-other, set-append-left, take-set-lt, drop-set-lt, drop-append-add, drop-append-seam}
 use Rattle.lists.specs.Lists.{numbers, Below}
-use Rattle.lists.specs.Words.{over, part, column, Clear}
+use Rattle.lists.specs.Words.{over, part, column, Clear, Apart}
 use Rattle.lists.specs.ListLaws.{at-numbers, length-numbers}
 use Rattle.lists.specs.OrderLaws.{numbers-snoc, below-at}
 use Rattle.lists.specs.WordLaws.{front-length, over-self, set-over}
@@ -62,6 +62,10 @@ module _ {A : Type 0} where
         (set-append-left (take b xs) ws i x (omega (arith, lb)) ∙ ap (λ (z : List A). z ++ ws) (sym (take-set-lt b xs i x h)))
         (sym (drop-set-lt (b + length ws) xs i x (omega arith)))
 
+  -- words laid over all that was laid before
+  pub over-cover : (xs : List A) (a b : ℕ) (us ws : List A) → b ≤ a → a + length us ≤ b + length ws → a ≤ length xs → over (over xs a us) b ws ≡ over xs b ws
+  over-cover xs a b us ws p q h = ap₂ (λ (s t : List A). s ++ ws ++ t) (take-under xs a us h b p) (drop-above xs a us h (b + length ws) q)
+
   pub part-under : (xs : List A) (a n b : ℕ) (ws : List A) → a + n ≤ b → b ≤ length xs → part (over xs b ws) a n ≡ part xs a n
   part-under xs a n b ws h k = cut (over xs b ws) ∙ ap (drop a) (take-under xs b ws k (a + n) h) ∙ sym (cut xs)
     where
@@ -70,6 +74,10 @@ module _ {A : Type 0} where
 
   pub part-above : (xs : List A) (a n b : ℕ) (ws : List A) → b + length ws ≤ a → b ≤ length xs → part (over xs b ws) a n ≡ part xs a n
   part-above xs a n b ws h k = ap (take n) (drop-above xs b ws k a h)
+
+  pub part-apart : (xs : List A) (a n b : ℕ) (ws : List A) {k : ℕ} → Apart a n b k → length ws ≤ k → b ≤ length xs → part (over xs b ws) a n ≡ part xs a n
+  part-apart xs a n b ws (inl l) p h = part-under xs a n b ws l h
+  part-apart xs a n b ws (inr l) p h = part-above xs a n b ws (omega arith) h
 
   -- ---- what was laid
   pub part-same : (xs : List A) (a n : ℕ) (ws : List A) → a ≤ length xs → length ws ≡ n → part (over xs a ws) a n ≡ ws
@@ -115,6 +123,10 @@ module _ (xs : List ℕ) (a i : ℕ) (ws : List ℕ) where
       ∙ getD-drop i xs 0 0
       ∙ ap (λ (j : ℕ). getD xs j 0) (sym e)
 
+pub get-apart : (xs : List ℕ) (a n b : ℕ) (ws : List ℕ) {k : ℕ} → Apart a n b k → length ws ≤ k → b ≤ length xs → (i : ℕ) → i < n → getD (over xs b ws) (a + i) 0 ≡ getD xs (a + i) 0
+get-apart xs a n b ws (inl l) p h i e = get-under xs b (a + i) ws (omega arith) h
+get-apart xs a n b ws (inr l) p h i e = get-above xs b (a + i) ws (omega arith) h
+
 pub part-at : (xs : List ℕ) (a n i : ℕ) → i < n → getD (part xs a n) i 0 ≡ getD xs (a + i) 0
 part-at xs a n i h = getD-take n (drop a xs) i 0 h ∙ getD-drop a xs i 0
 
@@ -124,6 +136,13 @@ part-below n xs a m i b h k = rw (part-at xs a m i k) at (below-at n (part xs a 
 -- the first word of a part, and the others
 pub part-first : (xs : List ℕ) (a n : ℕ) → a < length xs → part xs a (n + 1) ≡ getD xs a 0 ∷ part xs (a + 1) n
 part-first xs a n h = rw (add-one n, add-one a, drop-cons xs a 0)
+
+-- what is left of it from place p on
+pub part-step : (xs : List ℕ) (base end p : ℕ) → base + end ≤ length xs → p < end → part xs (base + p) (end - p) ≡ getD xs (base + p) 0 ∷ part xs (base + (p + 1)) (end - (p + 1))
+part-step xs base end p h l =
+    let e : end - p ≡ end - (p + 1) + 1 = omega arith in
+    let q : base + p + 1 ≡ base + (p + 1) = omega arith in
+    ap (part xs (base + p)) e ∙ part-first xs (base + p) (end - (p + 1)) (omega arith) ∙ ap (λ (a : ℕ). getD xs (base + p) 0 ∷ part xs a (end - (p + 1))) q
 
 -- one word more
 pub part-snoc : (xs : List ℕ) (a n : ℕ) → a + n < length xs → part xs a (n + 1) ≡ part xs a n ++ (getD xs (a + n) 0 ∷ [])

@@ -1,6 +1,7 @@
 -- Laws of words laid over others: length, words again over the same place, next to it or apart from it, one word more.
 -- `_++_` groups to the left.
 use mathlib.Core.Path.{_≡_, refl, sym, ap, ap₂, subst, _∙_}
+use mathlib.Core.Logic.{inl, inr}
 use mathlib.Core.List.{List, [], _∷_, _++_, append-assoc, append-nil}
 use Prim.Native.Nat.{ℕ, suc, _+_, _<_, _≤_}
 use native.Mathlib.Omega.{arith}
@@ -8,7 +9,7 @@ use native.Mathlib.Nat.{add-zero, zero-add}
 use native.Mathlib.Numerals.{add-one}
 use lib.ListN.{length, take, drop, getD, set, replicate, length-set, length-append, length-drop, take-append-drop}
 use lib.Seq.{drop-drop, drop-at, take-at, set-at, set-append-left, drop-cons, length-take-le, take-suc, drop-length}
-use Rattle.lists.specs.Words.{over, part}
+use Rattle.lists.specs.Words.{over, part, Apart}
 
 module _ {A : Type 0} where
   -- words in the place of as many
@@ -115,6 +116,11 @@ module _ {A : Type 0} where
       (ap length (sym (three t a m)) ∙ l)
       (sym (length-take-le n (drop b xs) (omega (arith, length-drop b xs)))))
 
+  pub over-swap : (xs : List A) (a b : ℕ) (us vs : List A) {m k : ℕ} → Apart a m b k → length us ≤ m → length vs ≤ k → a + length us ≤ length xs → b + length vs ≤ length xs
+      → over (over xs a us) b vs ≡ over (over xs b vs) a us
+  over-swap xs a b us vs (inl l) p q g h = over-apart xs a b us vs (omega arith) h
+  over-swap xs a b us vs (inr l) p q g h = sym (over-apart xs b a vs us (omega arith) g)
+
   -- words before words
   pub over-before : (xs : List A) (a b : ℕ) (us vs : List A) → b ≡ a + length us → b + length vs ≤ length xs → over (over xs b vs) a us ≡ over xs a (us ++ vs)
   over-before xs a b us vs p h = sym (over-apart xs a b us vs (omega arith) h) ∙ over-next xs a b us vs p h
@@ -156,12 +162,6 @@ module _ {A : Type 0} where
       ap (λ (m : ℕ). set (over xs a us) m x) e
       ∙ set-append-left (t ++ us) (drop (a + length us) xs) (length t + j) x (omega (arith, length-append t us))
       ∙ ap₂ (λ (z : List A) (m : ℕ). z ++ drop (a + m) xs) (set-after t us j x) (sym (length-set us j x))
-
-  -- words laid again, with others between that lie below
-  pub over-late : (xs : List A) (a b : ℕ) (us vs ws : List A) → a + length vs ≤ b → b + length us ≤ length xs → length ws ≡ length us → over (over (over xs b us) a vs) b ws ≡ over (over xs a vs) b ws
-  over-late xs a b us vs ws h k e =
-      ap (λ (z : List A). over z b ws) (sym (over-apart xs a b vs us h k))
-      ∙ over-again (over xs a vs) b us ws (omega (arith, over-length xs a vs (omega arith))) e
 
   -- two words, stored anywhere
   pub two-sets : (xs : List A) (a b : ℕ) (x y : A) → a < length xs → b < length xs → set (set xs a x) b y ≡ over (over xs a (x ∷ [])) b (y ∷ [])

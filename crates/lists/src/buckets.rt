@@ -6,7 +6,8 @@ ghost use Prim.Native.Nat.{_+_, _<_};
 ghost use lib.ListN.{length, getD};
 ghost use Rattle.lists.specs.Words.{over};
 ghost use Rattle.lists.specs.Buckets as Definitions;
-ghost use Rattle.lists.specs.Buckets.{hashes};
+ghost use Rattle.lists.specs.Lists.{Below};
+ghost use Rattle.lists.specs.Buckets.{hashes, hashOf};
 use crate::Word;
 
 // The hash h of some numbers, made one of those and e.
@@ -15,6 +16,18 @@ pub fn mix(h: u64, e: u64) -> u64
     ensures { λ r. ⌜ r ≡ Definitions.mix h e ⌝ }
 {
     (h + e) * 1640531527 / 64 % 4294967296
+}
+
+// The hash of four numbers.
+pub fn hash_four(of: [u64; 4]) -> u64
+    requires { ⌜ Below hashes of ⌝ }
+    ensures { λ r. ⌜ r ≡ hashOf of ⌝ }
+    ensures { λ r. ⌜ r < hashes ⌝ }
+{
+    let a = mix(0, of[0]);
+    let b = mix(a, of[1]);
+    let c = mix(b, of[2]);
+    mix(c, of[3])
 }
 
 // Which of n buckets the hash h falls in.

@@ -1,4 +1,4 @@
-// Words of one lent slice: read, copied, made 0. Definitions and laws on lists, on groups, and on words in a slice: in specs/.
+// Words of one lent slice: read, copied, filled, made 0. Definitions and laws on lists, on groups, and on words in a slice: in specs/.
 ghost use mathlib.Core.Path.{_≡_};
 ghost use mathlib.Core.Logic.{_⊎_};
 ghost use Prim.Native.Nat.{_+_, _<_, _≤_};
@@ -6,6 +6,7 @@ ghost use lib.ListN.{length, getD, replicate};
 ghost use Rattle.lists.specs.Words.{over, part};
 
 pub mod buckets;
+pub mod sorting;
 
 // A number of the work memory.
 pub type Word = u16;
@@ -38,14 +39,22 @@ pub fn copy_words(work: &mut [Word], from: usize, to: usize, m: usize)
     }
 }
 
+// Makes the `m` words from `at` on x.
+pub fn fill_words(work: &mut [Word], at: usize, m: usize, x: Word)
+    requires { ⌜ at + m ≤ length (now work) ⌝ }
+    ensures { λ _. ⌜ now (work .exit) ≡ over (now (work .entry)) at (replicate m x) ⌝ }
+{
+    let mut i = 0;
+    while i < m {
+        work[at + i] = x;
+        i += 1;
+    }
+}
+
 // Makes the `m` words from `at` on 0.
 pub fn clear_words(work: &mut [Word], at: usize, m: usize)
     requires { ⌜ at + m ≤ length (now work) ⌝ }
     ensures { λ _. ⌜ now (work .exit) ≡ over (now (work .entry)) at (replicate m 0) ⌝ }
 {
-    let mut i = 0;
-    while i < m {
-        work[at + i] = 0;
-        i += 1;
-    }
+    fill_words(work, at, m, 0);
 }

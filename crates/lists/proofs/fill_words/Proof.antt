@@ -1,17 +1,17 @@
--- `clear_words` meets its contract.
+-- `fill_words` meets its contract.
 use Prim.Native.Nat.{_-_}
 use native.Mathlib.Omega.{arith}
 use mathlib.Core.Path.{refl}
 use Rattle.lists.specs.LoopLaws.{Fill, fill-start, fill-length, fill-step}
-use Rattle.lists.proofs.Copying.{clear-end}
-use Rattle.lists.proofs.clear_words.Statement.{statement}
-use Rattle.lists.proofs.clear_words.Tie as tie
+use Rattle.lists.proofs.Copying.{filled-end}
+use Rattle.lists.proofs.fill_words.Statement.{statement}
+use Rattle.lists.proofs.fill_words.Tie as tie
 
 abbrev Inv-loop : tie.InvT-loop
-Inv-loop work₀ at m i₀ work i = Fill (λ j. 0) work₀ at m work i
+Inv-loop work₀ at m x i₀ work i = Fill (λ j. x) work₀ at m work i
 
 abbrev μ-loop : tie.MeasureT-loop
-μ-loop work₀ at m i₀ work i = m - i
+μ-loop work₀ at m x i₀ work i = m - i
 
 loop-holds : tie.Need-loop-holds Inv-loop μ-loop
 loop-holds c = fill-start (c .pre)
@@ -38,10 +38,10 @@ same-length : tie.Need-same-length Inv-loop μ-loop
 same-length c = fill-length (c .before .loop .inv)
 
 returns : tie.Need-returns Inv-loop μ-loop
-returns c = clear-end (c .before .loop .inv) (c .loop-test .left)
+returns c = filled-end (c .before .before .args .x) (c .before .loop .inv) (c .loop-test .left)
 
-pub clear-words-spec : {M : Type 1} → statement M
-clear-words-spec =
+pub fill-words-spec : {M : Type 1} → statement M
+fill-words-spec =
     tie.close
     (tie.spec
     Inv-loop
