@@ -11,6 +11,7 @@ pub mod Distance
 pub mod Margins
 pub mod Radius
 pub mod InBox
+pub mod IndexBound
 pub mod Sides
 pub mod Tests
 pub mod Corners

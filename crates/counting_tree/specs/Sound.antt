@@ -53,7 +53,7 @@ module _ (v : ValidParams) (fs : List Frame) where
   unfolding sameBox
   same-indexes l i j h = same-ints (indexes (side v fs l) (frame v fs i)) (indexes (side v fs l) (frame v fs j)) h
 
-  indexes-same : (l i j : ℕ) → indexes (side v fs l) (frame v fs i) ≡ indexes (side v fs l) (frame v fs j) → T (sameBox v fs l i j)
+  pub indexes-same : (l i j : ℕ) → indexes (side v fs l) (frame v fs i) ≡ indexes (side v fs l) (frame v fs j) → T (sameBox v fs l i j)
   unfolding sameBox
   indexes-same l i j e = subst (λ (z : List ℤ). T (sameInts (indexes (side v fs l) (frame v fs i)) z)) e (ints-same (indexes (side v fs l) (frame v fs i)))
 
@@ -80,7 +80,7 @@ module _ (v : ValidParams) (fs : List Frame) where
   far-turn p q h = rw (squared-swap (frame v fs p) (frame v fs q)) at h
 
 -- ---- two frames of the domain
-count-small : (z : ℤ) → Count z → natAbs z ≤ 2 ^ 15
+pub count-small : (z : ℤ) → Count z → natAbs z ≤ 2 ^ 15
 count-small (pos n) h = omega arith
 count-small (negsuc n) h = h
 
