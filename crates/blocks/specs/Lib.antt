@@ -1,0 +1,5 @@
+pub mod Blocks
+pub mod BlockLaws
+pub mod AroundLaws
+pub mod RowLaws
+pub mod SortedLaws
