@@ -21,18 +21,18 @@ use Rattle.appx_dbscan.proofs.Phases.{filled-within, filled-labels, fil
 
 -- w are the words lent, w₁ the same with the scratch words cleared
 module _ {ps : List ℤ} {v : ValidParams} {n : ℕ} (r : Ready ps v n) (w : List ℕ) (room : workWords n (v .s) ≤ length w)
-    {w₁ : List ℕ} (e₁ : w₁ ≡ over w (10 * n) (replicate (6 * n) 0)) where
+    {w₁ : List ℕ} (e₁ : w₁ ≡ over w (10 * n) (replicate (14 * n) 0)) where
   abbrev g : Geometry
   g = geometryAt v n ps
 
   within₁ : Within (workWords n (v .s)) w w₁
-  within₁ = rw e₁ (within-over (within-self (workWords n (v .s)) w) (10 * n) (replicate (6 * n) 0) (omega (arith, length-replicate {A = ℕ} (6 * n) 0)) room)
+  within₁ = rw e₁ (within-over (within-self (workWords n (v .s)) w) (10 * n) (replicate (14 * n) 0) (omega (arith, length-replicate {A = ℕ} (14 * n) 0)) room)
 
   room₁ : workWords n (v .s) ≤ length w₁
   room₁ = omega (arith, within₁ .size)
 
-  pub clear₁ : Clear w₁ (10 * n) (6 * n)
-  clear₁ = rw e₁ (made-clear w (10 * n) (6 * n) (omega arith))
+  pub clear₁ : Clear w₁ (10 * n) (14 * n)
+  clear₁ = rw e₁ (made-clear w (10 * n) (14 * n) (omega arith))
 
   -- w₂ are the words where all phases are done
   module _ {w₂ : List ℕ} (e₂ : w₂ ≡ filled g n w₁) where

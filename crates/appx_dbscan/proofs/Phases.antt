@@ -45,8 +45,15 @@ kind-low g i = by (core g i) (touched g i)
     by true cs = omega arith
     by false cs = border cs
 
+-- what `populate` needs of the fourteen words a frame that are clear, and what the phases after it need
+pub clear-populate : (n : ℕ) (w : List ℕ) → Clear w (10 * n) (14 * n) → Clear w (10 * n) (3 * n) × Clear w (16 * n) (8 * n)
+clear-populate n w c = (clear-within w (10 * n) (14 * n) (10 * n) (3 * n) c (omega arith) (omega arith), clear-within w (10 * n) (14 * n) (16 * n) (8 * n) c (omega arith) (omega arith))
+
+pub clear-later : (n : ℕ) (w : List ℕ) → Clear w (10 * n) (14 * n) → Clear w (10 * n) (6 * n)
+clear-later n w c = clear-within w (10 * n) (14 * n) (10 * n) (6 * n) c (omega arith) (omega arith)
+
 -- three of the six words a frame that are clear
-pub few-clear : (n : ℕ) (w : List ℕ) → Clear w (10 * n) (6 * n) → Clear w (10 * n) (3 * n)
+few-clear : (n : ℕ) (w : List ℕ) → Clear w (10 * n) (6 * n) → Clear w (10 * n) (3 * n)
 few-clear n w c = clear-within w (10 * n) (6 * n) (10 * n) (3 * n) c (omega arith) (omega arith)
 
 -- a run may be made on the frames, and w are the words before it

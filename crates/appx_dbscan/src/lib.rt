@@ -23,10 +23,10 @@ ghost use Rattle.appx_dbscan.specs.Transform.{transformOf, outcomeOf, la
 ghost use Rattle.appx_dbscan.specs.Promise.{Promise};
 ghost use Rattle.appx_dbscan.specs.Filled.{filled};
 
-// What the phases need cleared: six words a frame, from 10n on. Each leaves them so.
+// What the phases need cleared, from 10n on: six words a frame, which each leaves so, and for the first of them eight more, where the nodes stand later.
 const SCRATCH: usize = 10;
 
-const SCRATCH_WORDS: usize = 6;
+const SCRATCH_WORDS: usize = 14;
 
 // The answer of a run: the number of clusters and of core frames, or why it was refused.
 pub enum Outcome {
@@ -42,7 +42,7 @@ struct Counts {
 
 // Cells, core frames, trees and clusters, then the label and the kind of each frame, in the work words. Returns the number of clusters.
 fn fill_work(points: &[i16], v: ValidParams, n: usize, work: &mut [Word]) -> usize
-    requires { ⌜ Ready (now points) v n × (workWords n (v .s) ≤ length (now work)) × Clear (now work) (10 * n) (6 * n) ⌝ }
+    requires { ⌜ Ready (now points) v n × (workWords n (v .s) ≤ length (now work)) × Clear (now work) (10 * n) (14 * n) ⌝ }
     ensures { λ r. ⌜ r ≡ length (clusters (geometryAt v n (now (points .entry)))) ⌝ }
     ensures { λ _. ⌜ now (work .exit) ≡ filled (geometryAt v n (now (points .entry))) n (now (work .entry)) ⌝ }
 {

@@ -1,19 +1,20 @@
 -- When a frame is core: the size of its cell, else the frames near it; and what is written of it.
 use mathlib.Core.Path.{_≡_, sym, ap, ap₂, subst, _∙_}
-use mathlib.Core.Logic.{inl}
-use mathlib.Core.Bool.{Bool, true, cond}
+use mathlib.Core.Logic.{inl, inr}
+use mathlib.Core.Bool.{Bool, true, false, not, cond}
 use mathlib.Core.List.{List}
 use Prim.Native.Nat.{ℕ, _+_, _-_, _*_, _<_, _≤_}
+use native.Mathlib.Decide.{decLt}
 use native.Mathlib.Omega.{arith}
 use lib.IntN.{ℤ}
-use lib.Dec.{leb}
+use lib.Dec.{T, T-not, leb}
 use lib.ListN.{length, getD, replicate}
 use borrow.Author.Tests.{le-leb, lt-leb}
-use Rattle.lists.specs.Lists.{numbers, howMany}
-use Rattle.lists.specs.ListLaws.{length-numbers}
+use Rattle.lists.specs.Lists.{numbers, any, howMany}
+use Rattle.lists.specs.ListLaws.{true-T, T-true, T-or-not, not-turn, any-in, any-none, map-same, numbers-in, in-numbers, length-numbers}
 use Rattle.lists.specs.Words.{over, column, Clear}
 use Rattle.lists.specs.WordLaws.{over-length}
-use Rattle.lists.specs.PartLaws.{clear-after, clear-within}
+use Rattle.lists.specs.PartLaws.{column-replicate, clear-after, clear-within}
 use Rattle.lists.specs.LoopLaws.{Fill, fill-start, fill-length, fill-end}
 use Rattle.hyperparams.specs.declared.ValidParams.{ValidParams}
 use Rattle.counting_tree.specs.Geometry.{Geometry}
@@ -24,9 +25,11 @@ use Rattle.cells_grid.specs.Arrangement.{cellAt, coreBit, Arranged}
 use Rattle.cells_grid.specs.Places.{endIn}
 use Rattle.cells_grid.specs.Ready.{ready-lawful}
 use Rattle.cells_grid.specs.ArrangementLaws.{number-below, members-number, words-count, words-room, number-word, cell-size, arranged-over}
-use Rattle.cells_grid.specs.Blocks.{headsOf, nextOf, hashed, Hashed}
-use Rattle.cells_grid.specs.HashLaws.{heads-length, hashed-length, hashed-after, hashed-over, hash-under, hash-cleared}
-use Rattle.cells_grid.specs.Crowding.{every}
+use Rattle.lists.specs.Sorting.{startOf, placesOf, keyIn, Sortable, Sorted}
+use Rattle.blocks.specs.Blocks.{width, bucketOf, frameAt, keyFor, sortedBy}
+use Rattle.blocks.specs.RowLaws.{key-below}
+use Rattle.blocks.specs.SortedLaws.{places-long, sorted-length, sorted-after, sorted-under, sorted-cleared, sorted-kept, can-sort, keys-cleared}
+use Rattle.cells_grid.specs.Crowding.{itself, every, frameKey}
 
 -- the count of the cells is that of the definition
 pub all-cells : {g : Geometry} {k : ℕ} {w : List ℕ} → Arranged g k w → Arranged g (length (cells g)) w
@@ -79,20 +82,82 @@ module _ {ps : List ℤ} {v : ValidParams} {n k i : ℕ} {w : List ℕ} (p : Rea
           (lt-leb (g .least) (length (members g i)) (omega (arith, size, crowd-least)))
           (ap (λ (m : ℕ). leb (g .least) (howMany (neighbour g i) (numbers m))) e ∙ sym q ∙ t))
 
--- ---- core frames are written between the arrangement and the hashed frames
+-- ---- where every cell is dense
+-- the cells before c are, and c is
+pub dense-more : (P : ℕ → Bool) {c : ℕ} → ((d : ℕ) → d < c → T (P d)) → T (P c) → (d : ℕ) → d < c + 1 → T (P d)
+dense-more P {c} h t d l = elim (decLt d c) [
+  | yes m ↦ h d m
+  | no m ↦ let e : c ≡ d = omega arith in subst (λ (z : ℕ). T (P z)) e t
+]
+
+module _ {ps : List ℤ} {v : ValidParams} {n k : ℕ} {w : List ℕ} (r : Ready ps v n) (A : Arranged (geometryAt v n ps) k w) where
+  abbrev geo : Geometry
+  geo = geometryAt v n ps
+
+  lawful : Lawful geo
+  lawful = ready-lawful r
+
+  -- whether cell c is not dense
+  abbrev sparse : ℕ → Bool
+  sparse c = not (dense geo (cellAt geo c))
+
+  module _ {c : ℕ} (h : c < k) where
+    pub dense-end : (c < k) × (k ≤ n) × (3 * n ≤ length w)
+    dense-end = (h, words-count geo lawful A n (at-frames v n ps), omega (arith, words-room geo lawful A n (at-frames v n ps)))
+
+    module _ {start end : ℕ} (s : start ≡ getD w (2 * n + c) 0) (f : end ≡ endIn w n k c) where
+      pub dense-start : start ≤ end
+      dense-start = omega (arith, cell-size geo lawful A n (at-frames v n ps) c h s f)
+
+      pub dense-yes : v .«min_points» ≤ end - start → T (dense geo (cellAt geo c))
+      unfolding dense
+      dense-yes l = true-T (le-leb (geo .least) (length (members geo (cellAt geo c))) (omega (arith, cell-size geo lawful A n (at-frames v n ps) c h s f, at-least v n ps)))
+
+      pub dense-no : end - start < v .«min_points» → false ≡ not (any (λ c. not (dense geo (cellAt geo c))) (numbers k))
+      unfolding dense
+      dense-no l =
+          let e : dense geo (cellAt geo c) ≡ false = lt-leb (geo .least) (length (members geo (cellAt geo c))) (omega (arith, cell-size geo lawful A n (at-frames v n ps) c h s f, at-least v n ps)) in
+          sym (ap not (T-true (any sparse (numbers k)) (any-in sparse c (numbers k) (numbers-in k c h) (true-T (ap not e)))))
+
+  pub dense-all : ((c : ℕ) → c < k → T (dense geo (cellAt geo c))) → true ≡ not (any (λ c. not (dense geo (cellAt geo c))) (numbers k))
+  dense-all d = sym (ap not (any-none sparse (numbers k) (λ c i t. T-not (dense geo (cellAt geo c)) t (d c (in-numbers k c i)))))
+
+  dense-core : (i : ℕ) → i < n → T (dense geo (cellAt geo (cellNumber geo i))) → coreBit geo i ≡ 1
+  unfolding coreBit core dense
+  dense-core i h t =
+      let e : leb (geo .least) (length (members geo i)) ≡ true = ap (λ (m : List ℕ). leb (geo .least) (length m)) (sym (members-number geo lawful i (omega (arith, at-frames v n ps)))) ∙ T-true (leb (geo .least) (length (members geo (cellAt geo (cellNumber geo i))))) t in
+      rw e
+
+  -- then every frame is core
+  pub all-core : {b : Bool} → b ≡ not (any (λ c. not (dense geo (cellAt geo c))) (numbers k)) → b ≡ true → replicate n 1 ≡ column (coreBit geo) n
+  all-core {b} e t = sym (map-same (coreBit geo) (λ i. 1) (numbers n) (λ i j. dense-core i (in-numbers n i j) (each (cellNumber geo i) (omega (arith, A .count, number-below geo lawful i (omega (arith, in-numbers n i j, at-frames v n ps)))))) ∙ column-replicate 1 n)
+    where
+      each : (c : ℕ) → c < k → T (dense geo (cellAt geo c))
+      each c h = elim (T-or-not (dense geo (cellAt geo c))) [
+        | inl d ↦ d
+        | inr d ↦ absurd (subst T (not-turn (any sparse (numbers k)) true (sym e ∙ t)) (any-in sparse c (numbers k) (numbers-in k c h) d))
+      ]
+
+-- ---- core frames are written between the arrangement and the sorted frames
 module _ {ps : List ℤ} {v : ValidParams} {n k : ℕ} (w₀ : List ℕ)
     (p : Ready ps v n × Arranged (geometryAt v n ps) k w₀ × (16 * n ≤ length w₀) × Clear w₀ (10 * n) (6 * n)) where
   pub label-hash : Ready ps v n × (16 * n ≤ length w₀) × Clear w₀ (10 * n) (6 * n)
   label-hash = (p .0, p .2, p .3)
 
-  H : length (hashed (v .t) v n ps every n w₀) ≡ length w₀
-  H = hashed-length (v .t) v n ps every n w₀ (omega arith) (omega (arith, p .2))
+  key-low : (i : ℕ) → i < n → frameKey v n ps i < 4 * n
+  key-low i l = key-below (v .t) v n ps (p .0 .room) (p .0 .settings .scale .some) n itself every (omega arith) (λ x l. l) i
 
-  pub label-start : {h : List ℕ} → h ≡ hashed (v .t) v n ps every n w₀ → Fill (coreBit (geometryAt v n ps)) h (4 * n) n h 0
+  all : n ≤ n
+  all = omega arith
+
+  H : length (sortedBy (frameKey v n ps) n n w₀) ≡ length w₀
+  H = sorted-length (frameKey v n ps) n n all key-low w₀ (p .2)
+
+  pub label-start : {h : List ℕ} → h ≡ sortedBy (frameKey v n ps) n n w₀ → Fill (coreBit (geometryAt v n ps)) h (4 * n) n h 0
   label-start e = fill-start (omega (arith, ap length e, H, p .2))
 
-  module _ {h : List ℕ} (e : h ≡ hashed (v .t) v n ps every n w₀) {w : List ℕ} {i : ℕ} (G : Fill (coreBit (geometryAt v n ps)) h (4 * n) n w i) where
-    F : Fill (coreBit (geometryAt v n ps)) (hashed (v .t) v n ps every n w₀) (4 * n) n w i
+  module _ {h : List ℕ} (e : h ≡ sortedBy (frameKey v n ps) n n w₀) {w : List ℕ} {i : ℕ} (G : Fill (coreBit (geometryAt v n ps)) h (4 * n) n w i) where
+    F : Fill (coreBit (geometryAt v n ps)) (sortedBy (frameKey v n ps) n n w₀) (4 * n) n w i
     F = subst (λ (z : List ℕ). Fill (coreBit (geometryAt v n ps)) z (4 * n) n w i) e G
 
     abbrev C : List ℕ
@@ -102,27 +167,46 @@ module _ {ps : List ℤ} {v : ValidParams} {n k : ℕ} (w₀ : List ℕ)
     label-length = fill-length F ∙ H
 
     pub label-arranged : Arranged (geometryAt v n ps) k w
-    unfolding hashed
+    unfolding sortedBy
     label-arranged =
         let g = geometryAt v n ps in
         let f = at-frames v n ps in
-        let l = heads-length (v .t) v n ps every n in
-        let u : List ℕ = over w₀ (10 * n) (headsOf (v .t) v n ps every n) in
-        let lu : length u ≡ length w₀ = over-length w₀ (10 * n) (headsOf (v .t) v n ps every n) (omega (arith, p .2)) in
+        let P : List ℕ = placesOf (frameKey v n ps) n (4 * n) in
+        let u : List ℕ = over w₀ (14 * n) P in
+        let lu : length u ≡ length w₀ = over-length w₀ (14 * n) P (omega (arith, p .2, places-long (frameKey v n ps) n n all key-low)) in
         subst (Arranged g k) (sym (F .work))
         (arranged-over g (4 * n) C (omega arith) (omega (arith, p .2, H))
-        (arranged-over g (14 * n) (column (nextOf (v .t) v n ps every) n) (omega arith) (omega (arith, p .2))
-        (arranged-over g (10 * n) (headsOf (v .t) v n ps every n) (omega arith) (omega (arith, p .2)) (p .1))))
+        (arranged-over g (10 * n) (column (λ b. startOf (frameKey v n ps) n (b + 1)) (4 * n)) (omega arith) (omega (arith, p .2))
+        (arranged-over g (14 * n) P (omega arith) (omega (arith, p .2)) (p .1))))
 
-    pub label-hashed : Hashed (v .t) v n ps every w
-    label-hashed = subst (Hashed (v .t) v n ps every) (sym (F .work))
-        (hashed-over (v .t) v n ps every (4 * n) C (omega (arith, p .2, H)) (inl (omega (arith, length-numbers (coreBit (geometryAt v n ps)) i, F .high))) (hashed-after (v .t) v n ps every w₀ (omega (arith, p .2))))
+    pub label-sorted : Sorted (frameKey v n ps) n (4 * n) (10 * n) (14 * n) w
+    label-sorted = subst (Sorted (frameKey v n ps) n (4 * n) (10 * n) (14 * n)) (sym (F .work))
+        (sorted-kept (4 * n) C all (omega (arith, p .2, H)) (inl (omega (arith, length-numbers (coreBit (geometryAt v n ps)) i, F .high))) (sorted-after (frameKey v n ps) n n all key-low w₀ (p .2)))
 
     pub label-end : n ≤ i → over w (10 * n) (replicate (5 * n) 0) ≡ over w₀ (4 * n) (column (coreBit (geometryAt v n ps)) n)
     label-end h =
         let D : List ℕ = column (coreBit (geometryAt v n ps)) n in
         let d : length D ≡ n = length-numbers (coreBit (geometryAt v n ps)) n in
         let l : length (over w₀ (4 * n) D) ≡ length w₀ = over-length w₀ (4 * n) D (omega (arith, p .2)) in
-        ap (λ (z : List ℕ). over z (10 * n) (replicate (5 * n) 0)) (fill-end F h ∙ hash-under (v .t) v n ps every w₀ (4 * n) D (omega arith) (omega (arith, p .2)))
-        ∙ hash-cleared (v .t) v n ps every (over w₀ (4 * n) D) (omega (arith, p .2))
+        ap (λ (z : List ℕ). over z (10 * n) (replicate (5 * n) 0)) (fill-end F h ∙ sorted-under (frameKey v n ps) n n all key-low w₀ (p .2) (4 * n) D (omega arith))
+        ∙ sorted-cleared (frameKey v n ps) n n all key-low (over w₀ (4 * n) D) (omega (arith, p .2))
         (clear-after w₀ (10 * n) (5 * n) (4 * n) D (omega (arith, p .2)) (omega arith) (clear-within w₀ (10 * n) (6 * n) (10 * n) (5 * n) (p .3) (omega arith) (omega arith)))
+
+-- ---- all frames are sorted: their keys are written, then they are sorted, then the keys are cleared
+module _ {ps : List ℤ} {v : ValidParams} {n : ℕ} (w₀ : List ℕ) (p : Ready ps v n × (16 * n ≤ length w₀) × Clear w₀ (10 * n) (6 * n)) where
+  low : (i : ℕ) → i < n → frameKey v n ps i < 4 * n
+  low i l = key-below (v .t) v n ps (p .0 .room) (p .0 .settings .scale .some) n itself every (omega arith) (λ x l. l) i
+
+  whole : n ≤ n
+  whole = omega arith
+
+  pub frame-key : (j b : ℕ) → j < n → {s : ℕ} → s ≡ width (v .t) → b ≡ bucketOf s (4 * n - 1) (frameAt (v .t) v n ps j) → b ≡ frameKey v n ps j
+  unfolding keyFor
+  frame-key j b l d q = q ∙ ap (λ (s : ℕ). bucketOf s (4 * n - 1) (frameAt (v .t) v n ps j)) d
+
+  module _ {w : List ℕ} {j : ℕ} (F : Fill (frameKey v n ps) w₀ (15 * n) n w j) (h : n ≤ j) where
+    pub frames-can : Sortable (15 * n) n (10 * n) (4 * n) (14 * n) w × Clear w (10 * n) (4 * n)
+    frames-can = can-sort (frameKey v n ps) n n whole low w₀ (p .1) (p .2) (omega (arith, p .0 .few)) (fill-end F h)
+
+    pub frames-sorted : {u x : List ℕ} → u ≡ over (over w (14 * n) (placesOf (keyIn w (15 * n)) n (4 * n))) (10 * n) (column (λ b. startOf (keyIn w (15 * n)) n (b + 1)) (4 * n)) → x ≡ over u (15 * n) (replicate n 0) → x ≡ sortedBy (frameKey v n ps) n n w₀
+    frames-sorted e f = f ∙ keys-cleared (frameKey v n ps) n n whole low w₀ (p .1) (p .2) (omega (arith, p .0 .few)) (fill-end F h) e

@@ -1,35 +1,34 @@
 -- Frames are inserted: cell numbers, first frames and buckets grow frame by frame; and what `populate` lays in the end.
 use mathlib.Core.Path.{_≡_, refl, sym, ap, ap₂, subst, _∙_}
-use mathlib.Core.Logic.{inl}
+use mathlib.Core.Logic.{inl, inr}
 use mathlib.Core.Bool.{Bool, true, false, cond}
-use mathlib.Core.List.{List, [], _∷_, _++_, append-nil}
-use Prim.Native.Nat.{ℕ, zero, suc, _+_, _*_, _<_, _≤_}
+use mathlib.Core.List.{List, [], _∷_}
+use Prim.Native.Nat.{ℕ, _+_, _*_, _<_, _≤_}
 use native.Mathlib.Omega.{arith}
-use native.Mathlib.Numerals.{add-one}
 use lib.IntN.{ℤ}
-use lib.Dec.{ltb, eqb}
 use lib.ListN.{length, getD, set, replicate, length-set, length-append, length-replicate}
-use Rattle.lists.specs.Lists.{numbers, keep, howMany, concat, In, Below}
+use Rattle.lists.specs.Lists.{numbers, keep, howMany, In, Below}
 use Rattle.lists.specs.Words.{over, part, column, Clear}
 use Rattle.lists.specs.Buckets.{Bucketed}
-use Rattle.lists.specs.ListLaws.{keep-same, map-same, in-map, in-numbers, length-numbers}
-use Rattle.lists.specs.CountLaws.{concat-append}
+use Rattle.lists.specs.ListLaws.{map-same, in-map, in-numbers, length-numbers}
 use Rattle.lists.specs.OrderLaws.{kept-snoc, many-snoc, kept-le}
 use Rattle.lists.specs.WordLaws.{over-length, over-nil, over-again, over-apart, over-grow, set-over, set-laid}
-use Rattle.lists.specs.PartLaws.{part-under, part-same, column-snoc, get-under, holds-at-0, clear-over, clear-after, clear-within}
+use Rattle.lists.specs.PartLaws.{part-under, part-same, column-snoc, get-under, get-above, holds-at-0, clear-over, clear-before, clear-after, clear-within}
+use Rattle.lists.specs.Sorting.{startOf, placesOf}
+use Rattle.lists.specs.SortLaws.{start-of-same, places-of-same}
 use Rattle.lists.specs.BucketLaws.{bucketed-none, bucketed-over, bucketed-push}
 use Rattle.hyperparams.specs.Params.{maxFrames}
 use Rattle.hyperparams.specs.declared.ValidParams.{ValidParams}
 use Rattle.counting_tree.specs.Geometry.{Geometry}
 use Rattle.counting_tree.specs.Ready.{geometryAt, Ready, at-frames}
 use Rattle.cells_grid.specs.Cells.{isCell, cells, cellNumber}
-use Rattle.cells_grid.specs.Places.{Begun, chained, numbered, startOf, placesOf, numberIn, populated}
+use Rattle.cells_grid.specs.Places.{numberIn, populated}
 use Rattle.cells_grid.specs.Lawful.{Lawful}
 use Rattle.cells_grid.specs.Arrangement.{arranged, startAt}
-use Rattle.cells_grid.specs.Hashing.{frameBucket, cellBucket}
+use Rattle.cells_grid.specs.Hashing.{frameBucket, cellBucket, chained}
 use Rattle.cells_grid.specs.HashingLaws.{frame-bucket-below}
 use Rattle.cells_grid.specs.Ready.{ready-lawful}
-use Rattle.cells_grid.specs.ArrangementLaws.{cells-le, number-below, start-by-number, arranged-by-number, start-of-none, start-of-next}
+use Rattle.cells_grid.specs.ArrangementLaws.{cells-le, number-below, start-by-number, arranged-by-number}
 use Rattle.cells_grid.proofs.Find.{new-cell-at}
 
 -- ---- frames are inserted: those before i, in k cells; `scratch` is what stands in the words of the buckets
@@ -43,7 +42,7 @@ pub record Inserted (v : ValidParams) (n : ℕ) (ps : List ℤ) (w₀ w : List �
   pub work : w ≡ over (over (over w₀ 0 (column (cellNumber (geometryAt v n ps)) i)) n (keep (isCell (geometryAt v n ps)) (numbers i))) (10 * n) scratch
   pub chains : Bucketed (cellBucket v n ps) n k (10 * n) (11 * n) w
 
-pub inserted-start : {v : ValidParams} {n : ℕ} {ps : List ℤ} {w₀ : List ℕ} → (16 * n ≤ length w₀) × Clear w₀ (10 * n) (3 * n) → Inserted v n ps w₀ w₀ 0 0
+pub inserted-start : {v : ValidParams} {n : ℕ} {ps : List ℤ} {w₀ : List ℕ} → (24 * n ≤ length w₀) × Clear w₀ (10 * n) (3 * n) → Inserted v n ps w₀ w₀ 0 0
 inserted-start {v} {n} {ps} {w₀} p = record {
   fit = omega (arith, p .0);
   clear = clear-within w₀ (10 * n) (3 * n) (10 * n) (2 * n) (p .1) (omega arith) (omega arith);
@@ -85,19 +84,32 @@ module _ {v : ValidParams} {n : ℕ} {ps : List ℤ} {w₀ w : List ℕ} {k i : 
   pub inserted-length : length w ≡ length w₀
   inserted-length = ap length (I .work) ∙ over-length base (10 * n) (I .scratch) (omega (arith, l₂, I .wide, I .fit)) ∙ l₂
 
-  few : k ≤ i
-  few = omega (arith, I .count, lk)
+  pub inserted-few : k ≤ i
+  inserted-few = omega (arith, I .count, lk)
 
-  pub inserted-begun : Begun (geometryAt v n ps) n i k w × Bucketed (cellBucket v n ps) n k (10 * n) (11 * n) w
-  inserted-begun = (
-    record {
-      count = I .count;
-      firsts = ap (λ (z : List ℕ). part z n k) (I .work)
-          ∙ part-under base n k (10 * n) (I .scratch) (omega (arith, few, I .high)) (omega (arith, l₂, I .fit))
-          ∙ part-same (over w₀ 0 C) n k K (omega (arith, l₁, I .fit)) (sym (I .count));
-    },
-    I .chains,
-  )
+  -- words above the buckets stay
+  pub inserted-above : (j : ℕ) → 12 * n ≤ j → getD w j 0 ≡ getD w₀ j 0
+  inserted-above j h =
+      ap (λ (z : List ℕ). getD z j 0) (I .work)
+      ∙ get-above base (10 * n) j (I .scratch) (omega (arith, I .wide)) (omega (arith, l₂, I .fit))
+      ∙ get-above (over w₀ 0 C) n j K (omega (arith, lk, I .high)) (omega (arith, l₁, I .fit))
+      ∙ get-above w₀ 0 j C (omega (arith, lc, I .high)) (omega arith)
+
+  -- words may be laid there
+  pub inserted-over : (a : ℕ) (ms : List ℕ) → 12 * n ≤ a → a + length ms ≤ length w₀ → Inserted v n ps (over w₀ a ms) (over w a ms) k i
+  inserted-over a ms h l = record {
+    fit = omega (arith, over-length w₀ a ms l, I .fit);
+    clear = clear-before w₀ (10 * n) (2 * n) a ms (omega arith) (omega arith) (I .clear);
+    high = I .high;
+    count = I .count;
+    scratch = I .scratch;
+    wide = I .wide;
+    work = ap (λ (z : List ℕ). over z a ms) (I .work)
+        ∙ over-apart base (10 * n) a (I .scratch) ms (omega (arith, I .wide)) (omega (arith, l₂))
+        ∙ ap (λ (z : List ℕ). over z (10 * n) (I .scratch)) (over-apart (over w₀ 0 C) n a K ms (omega (arith, lk, I .high)) (omega (arith, l₁))
+        ∙ ap (λ (z : List ℕ). over z n K) (over-apart w₀ 0 a C ms (omega (arith, lc, I .high)) l));
+    chains = bucketed-over (I .chains) a ms (omega (arith, inserted-length)) (inr (omega arith)) (inr (omega (arith, inserted-few, I .high)));
+  }
 
   module _ (h : i < n) where
     abbrev xs : List ℕ
@@ -150,7 +162,7 @@ module _ {v : ValidParams} {n : ℕ} {ps : List ℤ} {w₀ w : List ℕ} {k i : 
         sym (set-over (over base₂ (10 * n) u) (10 * n + j) x (omega (arith, over-length base₂ (10 * n) u (omega (arith, l₄, I .fit)), l₄, I .fit)))
         ∙ set-laid base₂ (10 * n) u j x (omega (arith, l₄, I .fit)) (omega arith)
 
-    inserted : {r : ℕ} {z : List ℕ} (t : Bool) → isCell grid i ≡ t → r ≡ howMany (isCell grid) (numbers (i + 1)) → r ≡ k + cond t 1 0 → z ≡ chained n (frameBucket v n ps i) k t w₂ → Inserted v n ps w₀ z r (i + 1)
+    inserted : {r : ℕ} {z : List ℕ} (t : Bool) → isCell grid i ≡ t → r ≡ howMany (isCell grid) (numbers (i + 1)) → r ≡ k + cond t 1 0 → z ≡ chained v n ps i k t w₂ → Inserted v n ps w₀ z r (i + 1)
     unfolding chained
     inserted {r} {z} true e c q p =
         let b : ℕ = frameBucket v n ps i in
@@ -170,10 +182,10 @@ module _ {v : ValidParams} {n : ℕ} {ps : List ℤ} {w₀ w : List ℕ} {k i : 
           wide = length-set u b (k + 1) ∙ lu;
           work = p
               ∙ ap₂ (λ (y : List ℕ) (a : ℕ). over (over y a (x ∷ [])) (10 * n + b) ((k + 1) ∷ [])) work₂ m
-              ∙ ap (λ (y : List ℕ). over y (10 * n + b) ((k + 1) ∷ [])) (stored (I .scratch) (n + k) x (I .wide) (omega (arith, few)))
+              ∙ ap (λ (y : List ℕ). over y (10 * n + b) ((k + 1) ∷ [])) (stored (I .scratch) (n + k) x (I .wide) (omega (arith, inserted-few)))
               ∙ stored u b (k + 1) lu (omega arith);
           chains = subst (λ (a : ℕ). Bucketed (cellBucket v n ps) n a (10 * n) (11 * n) z) (sym q)
-              (bucketed-push chains₂ (omega (arith, s)) (omega arith) (omega (arith, l₅, few, I .fit))
+              (bucketed-push chains₂ (omega (arith, s)) (omega arith) (omega (arith, l₅, inserted-few, I .fit))
               (p ∙ ap (λ (a : ℕ). over (over w₂ (11 * n + k) (getD w₂ (10 * n + a) 0 ∷ [])) (10 * n + a) ((k + 1) ∷ [])) (sym s)));
         }
     inserted {r} {z} false e c q p = record {
@@ -188,7 +200,7 @@ module _ {v : ValidParams} {n : ℕ} {ps : List ℤ} {w₀ w : List ℕ} {k i : 
     }
 
     pub inserted-step : {r : ℕ} {z : List ℕ} → r ≡ howMany (isCell (geometryAt v n ps)) (numbers (i + 1))
-        → z ≡ chained n (frameBucket v n ps i) k (isCell (geometryAt v n ps) i) (over (over w i (cellNumber (geometryAt v n ps) i ∷ [])) (n + k) (cond (isCell (geometryAt v n ps) i) (i ∷ []) []))
+        → z ≡ chained v n ps i k (isCell (geometryAt v n ps) i) (over (over w i (cellNumber (geometryAt v n ps) i ∷ [])) (n + k) (cond (isCell (geometryAt v n ps) i) (i ∷ []) []))
         → Inserted v n ps w₀ z r (i + 1)
     inserted-step c p = inserted (isCell grid i) refl c (c ∙ many-snoc (isCell grid) i ∙ ap (λ (m : ℕ). m + cond (isCell grid i) 1 0) (sym (I .count))) p
 
@@ -212,39 +224,8 @@ module _ {v : ValidParams} {n : ℕ} {ps : List ℤ} {w₀ w : List ℕ} {k i : 
             ∙ ap₂ (λ (a b : ℕ). over (over w₀ 0 (column (cellNumber grid) a)) n (keep (isCell grid) (numbers b))) e q,
       )
 
--- ---- the frames of the cells with a number below c
-module _ (number : ℕ → ℕ) (n : ℕ) where
-  pub places-of-next : (c : ℕ) → placesOf number n (c + 1) ≡ placesOf number n c ++ numbered number n c
-  unfolding placesOf
-  places-of-next c =
-      ap concat (column-snoc (numbered number n) c)
-      ∙ concat-append (column (numbered number n) c) (numbered number n c ∷ [])
-      ∙ ap (λ (r : List ℕ). concat (column (numbered number n) c) ++ r) (append-nil (numbered number n c))
-
-  pub places-of-none : placesOf number n 0 ≡ []
-  unfolding placesOf
-  places-of-none = refl
-
-  pub places-of-length : (c : ℕ) → length (placesOf number n c) ≡ startOf number n c
-  places-of-length zero = ap length places-of-none ∙ sym (start-of-none number n)
-  places-of-length (suc c) = rw (← add-one c) (omega (arith, ap length (places-of-next c), length-append (placesOf number n c) (numbered number n c), start-of-next number n c, places-of-length c))
-
--- numbers that agree arrange alike
-module _ (f h : ℕ → ℕ) (n : ℕ) (e : (i : ℕ) → i < n → f i ≡ h i) where
-  pub numbered-same : (c : ℕ) → numbered f n c ≡ numbered h n c
-  unfolding numbered
-  numbered-same c = keep-same (λ i. eqb (f i) c) (λ i. eqb (h i) c) (numbers n) (λ i k. ap (λ (x : ℕ). eqb x c) (e i (in-numbers n i k)))
-
-  pub start-of-same : (c : ℕ) → startOf f n c ≡ startOf h n c
-  unfolding startOf
-  start-of-same c = ap length (keep-same (λ i. ltb (f i) c) (λ i. ltb (h i) c) (numbers n) (λ i k. ap (λ (x : ℕ). ltb x c) (e i (in-numbers n i k))))
-
-  pub places-of-same : (k : ℕ) → placesOf f n k ≡ placesOf h n k
-  unfolding placesOf
-  places-of-same k = ap concat (map-same (numbered f n) (numbered h n) (numbers k) (λ c i. numbered-same c))
-
 -- ---- first the one, then the other
-module _ {ps : List ℤ} {v : ValidParams} {n : ℕ} (r : Ready ps v n) (w₀ : List ℕ) (s : (16 * n ≤ length w₀) × Clear w₀ (10 * n) (3 * n)) {k : ℕ} {w₁ : List ℕ}
+module _ {ps : List ℤ} {v : ValidParams} {n : ℕ} (r : Ready ps v n) (w₀ : List ℕ) (s : (24 * n ≤ length w₀) × Clear w₀ (10 * n) (3 * n)) {k : ℕ} {w₁ : List ℕ}
     (p : (k ≡ length (cells (geometryAt v n ps))) × (w₁ ≡ over (over w₀ 0 (column (cellNumber (geometryAt v n ps)) n)) n (cells (geometryAt v n ps)))) where
   abbrev g : Geometry
   g = geometryAt v n ps

@@ -1,11 +1,11 @@
 pub mod Find
 pub mod Grow
-pub mod Sort
+pub mod IndexWords
+pub mod Arrange
 pub mod Hash
 pub mod Listed
 pub mod InRange
 pub mod Core
-pub mod Edges
 pub mod Searching
 pub mod Hashing
 pub mod Gathering

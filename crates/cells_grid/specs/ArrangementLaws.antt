@@ -1,7 +1,7 @@
 -- Laws of cell numbers and of the arrangement by cell: cells by number, lists by number, the places of a cell are its frames; and what words that hold them say.
 use mathlib.Core.Path.{_≡_, refl, sym, ap, ap₂, subst, _∙_}
 use mathlib.Core.Logic.{inl, inr}
-use mathlib.Core.Bool.{Bool, cond}
+use mathlib.Core.Bool.{Bool}
 use mathlib.Core.List.{List, [], _∷_, _++_, map, map-append, map-map}
 use Prim.Native.Nat.{ℕ, zero, suc, _+_, _-_, _*_, _<_, _≤_}
 use native.Mathlib.Omega.{arith}
@@ -11,61 +11,21 @@ use lib.ListN.{length, take, drop, getD, length-take, length-drop}
 use lib.Seq.{take-suc, take-length, split-at, drop-at, take-at, ext-getD}
 use Rattle.lists.specs.Lists.{numbers, keep, lose, howMany, total, concat, In, Below}
 use Rattle.lists.specs.Words.{over, part, column}
-use Rattle.lists.specs.ListLaws.{T-true, T-false, T-or-not, both-ways, bit-eqb, lose-in, keep-same, keep-more, at-in, in-map, map-same, in-some, in-concat, in-numbers, at-numbers, length-numbers, length-from}
-use Rattle.lists.specs.CountLaws.{keep-none, keep-all, keep-map, parts-length, howMany-cons, total-append, length-concat, concat-append}
+use Rattle.lists.specs.ListLaws.{T-true, T-false, T-or-not, both-ways, bit-eqb, lose-in, keep-same, keep-more, at-in, in-map, map-same, in-some, in-concat, in-numbers, at-numbers, length-numbers}
+use Rattle.lists.specs.CountLaws.{keep-map, parts-length, total-append, length-concat, concat-append}
 use Rattle.lists.specs.OrderLaws.{at-rank, kept-le}
 use Rattle.lists.specs.WordLaws.{over-length}
 use Rattle.lists.specs.PartLaws.{part-part, part-under, part-same, part-at, part-below, holds-at, holds-at-0}
 use Rattle.lists.specs.Within.{Within, within-self, within-over}
+use Rattle.lists.specs.Sorting.{numbered, sizeOf, startOf, placesOf}
+use Rattle.lists.specs.SortLaws as Sorting
+use Rattle.lists.specs.SortLaws.{start-of-none, start-of-next, start-of-all}
 use Rattle.counting_tree.specs.Geometry.{Geometry}
 use Rattle.cells_grid.specs.Cells.{sameCell, members, first, isCell, cells, cellNumber, listed, list, core}
 use Rattle.cells_grid.specs.Lawful.{Lawful}
 use Rattle.cells_grid.specs.CellLaws.{in-member, members-same, first-in, cell-first, cells-ascending, first-cell, number-cell, number-same}
 use Rattle.cells_grid.specs.Arrangement.{cellAt, arranged, startAt, coreBit, Arranged, Cored}
-use Rattle.cells_grid.specs.Places.{numbered, startOf, placesOf, endIn, populated}
-
--- ---- frames by cell number
-lower-or-same : (y c : ℕ) → _≡_ {A = ℕ} (cond (ltb y (c + 1)) 1 0) (cond (ltb y c) 1 0 + cond (eqb y c) 1 0)
-lower-or-same y c = elim (T-or-not (ltb y c)) [
-  | inl t ↦
-      let l : y < c = ltb→lt y c t in
-      rw (T-true (ltb y (c + 1)) (lt→ltb y (c + 1) (omega arith)), T-true (ltb y c) t, T-false (eqb y c) (λ u. omega (arith, eqb→eq y c u)))
-  | inr f ↦
-      let l : c ≤ y = nltb→le y c f in
-      elim (T-or-not (eqb y c)) [
-        | inl u ↦ rw (T-true (ltb y (c + 1)) (lt→ltb y (c + 1) (omega (arith, eqb→eq y c u))), T-false (ltb y c) (T-not (ltb y c) f), T-true (eqb y c) u)
-        | inr v ↦ rw (
-          T-false (ltb y (c + 1)) (λ t. let e : y ≡ c = omega (arith, ltb→lt y (c + 1) t) in T-not (eqb y c) v (rw e (eqb-refl c))),
-          T-false (ltb y c) (T-not (ltb y c) f),
-          T-false (eqb y c) (T-not (eqb y c) v),
-        )
-      ]
-]
-
-module _ (number : ℕ → ℕ) where
-  one-more : (c : ℕ) (xs : List ℕ) → howMany (λ i. ltb (number i) (c + 1)) xs ≡ howMany (λ i. ltb (number i) c) xs + howMany (λ i. eqb (number i) c) xs
-  one-more c [] = refl
-  one-more c (x ∷ xs) = omega (
-    arith,
-    howMany-cons (λ i. ltb (number i) (c + 1)) x xs,
-    howMany-cons (λ i. ltb (number i) c) x xs,
-    howMany-cons (λ i. eqb (number i) c) x xs,
-    one-more c xs,
-    lower-or-same (number x) c,
-  )
-
-  module _ (n : ℕ) where
-    pub start-of-none : startOf number n 0 ≡ 0
-    unfolding startOf
-    start-of-none = ap length (keep-none (λ i. ltb (number i) 0) (numbers n) (λ i k t. omega (arith, ltb→lt (number i) 0 t)))
-
-    pub start-of-next : (c : ℕ) → startOf number n (c + 1) ≡ startOf number n c + length (numbered number n c)
-    unfolding startOf numbered
-    start-of-next c = one-more c (numbers n)
-
-    pub start-of-le : (c : ℕ) → startOf number n c ≤ n
-    unfolding startOf
-    start-of-le c = kept-le (λ i. ltb (number i) c) n
+use Rattle.cells_grid.specs.Places.{endIn, populated}
 
 -- ---- cells by number
 module _ (g : Geometry) where
@@ -168,6 +128,7 @@ module _ (g : Geometry) (L : Lawful g) where
           (λ t. z .0 (number-at g c h ∙ sym (eqb→eq (cellNumber g i) c t)))
 
   pub start-by-number : (c : ℕ) → c ≤ length (cells g) → startAt g c ≡ startOf (cellNumber g) (g .frames) c
+  unfolding sizeOf
   start-by-number zero h = start-none g ∙ sym (start-of-none (cellNumber g) (g .frames))
   start-by-number (suc c) h =
       let l : c < length (cells g) = h in
@@ -181,15 +142,11 @@ module _ (g : Geometry) (L : Lawful g) where
       ∙ map-same (λ c. members g (cellAt g c)) (numbered (cellNumber g) (g .frames)) (numbers (length (cells g))) (λ c i. members-by-number c (in-numbers (length (cells g)) c i)))
 
   pub start-le : (c : ℕ) → c ≤ length (cells g) → startAt g c ≤ g .frames
-  start-le c h = omega (arith, start-by-number c h, start-of-le (cellNumber g) (g .frames) c)
+  start-le c h = omega (arith, start-by-number c h, Sorting.start-le (cellNumber g) (g .frames) c)
 
   -- after the last cell come no frames
   pub start-end : startAt g (length (cells g)) ≡ g .frames
-  unfolding startOf
-  start-end =
-      start-by-number (length (cells g)) (omega arith)
-      ∙ ap length (keep-all (λ i. ltb (cellNumber g i) (length (cells g))) (numbers (g .frames)) (λ i k. lt→ltb (cellNumber g i) (length (cells g)) (number-below i (in-numbers (g .frames) i k))))
-      ∙ length-from 0 (g .frames)
+  start-end = start-by-number (length (cells g)) (omega arith) ∙ start-of-all (cellNumber g) (g .frames) (length (cells g)) number-below
 
   pub arranged-length : length (arranged g) ≡ g .frames
   unfolding arranged startAt

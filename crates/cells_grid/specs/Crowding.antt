@@ -1,23 +1,32 @@
--- Frames near a frame, counted block by block. Definitions only.
+-- Frames near a frame, counted row by row. Definitions only.
 use mathlib.Core.Bool.{Bool, true, _&&_}
 use mathlib.Core.List.{List}
 use Prim.Native.Nat.{ℕ}
 use lib.IntN.{ℤ}
-use Rattle.lists.specs.Lists.{numbers, howMany}
+use lib.ListN.{length}
 use Rattle.hyperparams.specs.declared.ValidParams.{ValidParams}
 use Rattle.counting_tree.specs.Ready.{geometryAt}
+use Rattle.blocks.specs.Blocks.{sameNats, rowOf, rowAround, keyFor, foundIn}
 use Rattle.cells_grid.specs.Cells.{neighbour}
-use Rattle.cells_grid.specs.Blocks.{width, keyOf, sameNats, frameAt}
 
--- every frame is hashed
+-- a frame stands for itself
+abbrev pub itself : ℕ → ℕ
+itself j = j
+
+-- and every frame is sorted
 abbrev pub every : ℕ → Bool
 every j = true
 
 module _ (v : ValidParams) (n : ℕ) (ps : List ℤ) where
-  -- whether frame j is a neighbour of frame i in the block that begins at es
-  abbrev pub neighbourIn : List ℕ → ℕ → ℕ → Bool
-  neighbourIn es i j = sameNats (keyOf (width (v .t)) (frameAt (v .t) v n ps j)) es && neighbour (geometryAt v n ps) i j
+  -- the bucket of each frame, by blocks for the reach t
+  abbrev pub frameKey : ℕ → ℕ
+  frameKey = keyFor (v .t) v n ps n itself every
 
-  -- how many there are
-  unfoldable pub neighboursIn : List ℕ → ℕ → ℕ
-  neighboursIn es i = howMany (neighbourIn es i) (numbers n)
+  -- whether frame j is a neighbour of frame i in row r of those around it
+  abbrev pub neighbourIn : ℕ → ℕ → ℕ → Bool
+  neighbourIn i r j = sameNats (rowOf (v .t) v n ps j) (rowAround (v .t) v n ps i r) && neighbour (geometryAt v n ps) i j
+
+  -- how many are found there
+  unfoldable pub neighboursIn : ℕ → ℕ → ℕ
+  unfolding foundIn
+  neighboursIn i r = length (foundIn (v .t) v n ps n itself every i (neighbour (geometryAt v n ps) i) r)

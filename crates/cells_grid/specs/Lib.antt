@@ -7,9 +7,6 @@ pub mod Hashing
 pub mod HashingLaws
 pub mod ArrangementLaws
 pub mod Ready
-pub mod Blocks
-pub mod BlockLaws
-pub mod HashLaws
 pub mod Crowding
 pub mod Listing
 pub mod ListingLaws

@@ -1,53 +1,57 @@
 -- The core cells that a cell lists, in the order in which a search by blocks finds them, and what the words hold for that search. Definitions only.
-use mathlib.Core.Path.{_≡_}
 use mathlib.Core.Bool.{Bool, not, _&&_}
-use mathlib.Core.List.{List, map}
-use Prim.Native.Nat.{ℕ, _+_, _*_, _^_}
+use mathlib.Core.List.{List}
+use Prim.Native.Nat.{ℕ, _+_, _*_}
 use lib.IntN.{ℤ}
 use lib.Dec.{eqb}
-use lib.ListN.{getD}
-use Rattle.lists.specs.Lists.{keep, concat}
-use Rattle.lists.specs.Words.{part, column}
-use Rattle.lists.specs.Buckets.{keepDown}
+use lib.ListN.{length, getD}
+use Rattle.lists.specs.Lists.{keep}
+use Rattle.lists.specs.Sorting.{Sorted}
 use Rattle.hyperparams.specs.declared.ValidParams.{ValidParams}
 use Rattle.counting_tree.specs.Geometry.{Geometry}
 use Rattle.counting_tree.specs.Ready.{geometryAt}
-use Rattle.cells_grid.specs.Cells.{isCell, coreCell, cellNumber}
+use Rattle.blocks.specs.Blocks.{sameNats, rowOf, rowAround, keyFor, foundIn, found}
+use Rattle.cells_grid.specs.Cells.{cells, coreCell}
 use Rattle.cells_grid.specs.Arrangement.{cellAt}
-use Rattle.cells_grid.specs.Blocks.{width, keyOf, blockAt, sameNats, frameAt, headsOf, nextOf}
 
 -- how far the counts of the first frames of cells that list each other can differ: "at most 4 × t × t"
 abbrev pub reachOf : ValidParams → ℕ
 reachOf v = 2 * v .t
 
--- frame j is the first frame of a core cell
-abbrev pub firstCore : Geometry → ℕ → Bool
-firstCore g j = isCell g j && coreCell g j
+-- whether the cell with number c is a core cell
+abbrev pub coreAt : Geometry → ℕ → Bool
+coreAt g c = coreCell g (cellAt g c)
 
 -- of the cells ds those whose word from `marks` on is not `mark`
 unfoldable pub unmarked : List ℕ → (marks mark : ℕ) → List ℕ → List ℕ
 unmarked w marks mark ds = keep (λ d. not (eqb (getD w (marks + d) 0) mark)) ds
 
 module _ (v : ValidParams) (n : ℕ) (ps : List ℤ) where
-  -- the core cells, by number, whose first frames lie in the block es and near frame i, in the order in which they are found
-  unfoldable pub listIn : ℕ → List ℕ → List ℕ
-  listIn i es = let g = geometryAt v n ps in map (cellNumber g) (keepDown (λ j. sameNats (keyOf (width (reachOf v)) (frameAt (reachOf v) v n ps j)) es && (firstCore g j && g .near i j)) n)
+  abbrev pub geo : Geometry
+  geo = geometryAt v n ps
 
-  -- the core cells that cell c lists: those in the blocks around its first frame, block by block
+  -- the bucket of each core cell, by the block of its first frame
+  abbrev pub cellKey : ℕ → ℕ
+  cellKey = keyFor (reachOf v) v n ps (length (cells geo)) (cellAt geo) (coreAt geo)
+
+  -- whether the first frame of cell d lies near frame i
+  abbrev pub nearAt : ℕ → ℕ → Bool
+  nearAt i d = geo .near i (cellAt geo d)
+
+  -- and in row r of those around it
+  abbrev pub nearIn : ℕ → ℕ → ℕ → Bool
+  nearIn i r d = sameNats (rowOf (reachOf v) v n ps (cellAt geo d)) (rowAround (reachOf v) v n ps i r) && nearAt i d
+
+  -- the core cells whose first frames lie in row r around frame i, and near it, in the order in which they are found
+  unfoldable pub listIn : ℕ → ℕ → List ℕ
+  unfolding foundIn
+  listIn i r = foundIn (reachOf v) v n ps (length (cells geo)) (cellAt geo) (coreAt geo) i (nearAt i) r
+
+  -- the core cells that cell c lists, row by row
   unfoldable pub listOf : ℕ → List ℕ
-  unfolding listIn
-  listOf c = let i = cellAt (geometryAt v n ps) c in concat (column (λ m. listIn i (blockAt (reachOf v) (frameAt (reachOf v) v n ps i) m)) (2 ^ v .channels))
+  unfolding found
+  listOf c = found (reachOf v) v n ps (length (cells geo)) (cellAt geo) (coreAt geo) (cellAt geo c) (nearAt (cellAt geo c))
 
-  -- ---- the first frames of core cells, hashed by their blocks
-  -- the head of each bucket: one more than the last frame in it, 0 for none
-  unfoldable pub heads : List ℕ
-  heads = headsOf (reachOf v) v n ps (firstCore (geometryAt v n ps)) n
-
-  -- one more than the frame before each frame in its bucket, 0 for none
-  unfoldable pub nexts : List ℕ
-  nexts = column (nextOf (reachOf v) v n ps (firstCore (geometryAt v n ps))) n
-
-  -- the words hold them: from 10n the heads of the buckets, from 14n the frames before
-  pub record Hashed (w : List ℕ) : Type 0 where
-    pub buckets : part w (10 * n) (4 * n) ≡ heads
-    pub chains : part w (14 * n) n ≡ nexts
+  -- the words hold the core cells by bucket: from 10n where those of each bucket end, from 14n the cells
+  abbrev pub Hashed : List ℕ → Type 0
+  Hashed w = Sorted cellKey (length (cells geo)) (4 * length (cells geo)) (10 * n) (14 * n) w

@@ -1,24 +1,24 @@
 // Cells, their lists and their core frames (CellsGrid and Cell of the source), in words of one lent slice.
 // `v` has the settings, `n` is the number of frames, `k` the number of cells. A cell has a number; frame i's is at i,
-// and each of the regions below has one word a frame too. From 10n up to 16n each phase finds words that are 0 and leaves them so:
-// `inserting`, `blocks` and `listing` say what stands there meanwhile.
+// and each of the regions below has one word a frame too. From 10n up to 16n, and for `populate` up to 24n,
+// each phase finds words that are 0 and leaves them so: `inserting`, `listing` and the crate `blocks` say what stands there meanwhile.
 use hyperparams::ValidParams;
 use lists::Word;
 ghost use mathlib.Core.Path.{_≡_};
+ghost use mathlib.Core.Bool.{not};
 ghost use Prim.Native.Nat.{_+_, _*_, _<_, _≤_};
 ghost use lib.Dec.{eqb};
 ghost use lib.ListN.{length, getD};
-ghost use Rattle.lists.specs.Lists.{howMany};
+ghost use Rattle.lists.specs.Lists.{numbers, any, howMany};
 ghost use Rattle.lists.specs.Words.{over, column, Clear};
 ghost use Rattle.counting_tree.specs.Domain.{Counts};
 ghost use Rattle.counting_tree.specs.Ready.{geometryAt, Ready};
-ghost use Rattle.cells_grid.specs.Cells.{members, cells, listed};
+ghost use Rattle.cells_grid.specs.Cells.{members, cells, listed, dense};
 ghost use Rattle.cells_grid.specs.Arrangement.{cellAt, coreBit, Arranged};
-ghost use Rattle.cells_grid.specs.Blocks.{Hashed};
-ghost use Rattle.cells_grid.specs.Crowding.{every};
+ghost use Rattle.lists.specs.Sorting.{Sorted};
+ghost use Rattle.cells_grid.specs.Crowding.{frameKey};
 ghost use Rattle.cells_grid.specs.Places.{endIn, populated};
 
-pub mod blocks;
 pub mod crowding;
 mod inserting;
 pub mod listing;
@@ -33,7 +33,7 @@ pub const CORES: usize = 4;
 
 // Numbers the cells and arranges the frames by cell. Returns the number of cells.
 pub fn populate(points: &[i16], v: ValidParams, n: usize, work: &mut [Word]) -> usize
-    requires { ⌜ Ready (now points) v n × (16 * n ≤ length (now work)) × Clear (now work) (10 * n) (3 * n) ⌝ }
+    requires { ⌜ Ready (now points) v n × (24 * n ≤ length (now work)) × Clear (now work) (10 * n) (3 * n) × Clear (now work) (16 * n) (8 * n) ⌝ }
     ensures { λ r. ⌜ r ≡ length (cells (geometryAt v n (now (points .entry)))) ⌝ }
     ensures { λ _. ⌜ now (work .exit) ≡ populated (geometryAt v n (now (points .entry))) (now (work .entry)) ⌝ }
 {
@@ -108,7 +108,7 @@ pub fn points_in_range(
 // 1 if frame i is core, else 0.
 fn core_frame(points: &[i16], v: ValidParams, n: usize, work: &[Word], k: usize, i: usize) -> Word
     requires { ⌜ Ready (now points) v n × Arranged (geometryAt v n (now points)) k (now work) × (i < n) ⌝ }
-    requires { ⌜ Counts (now points) × Hashed (v .t) v n (now points) every (now work) × (15 * n ≤ length (now work)) ⌝ }
+    requires { ⌜ Counts (now points) × Sorted (frameKey v n (now points)) n (4 * n) (10 * n) (14 * n) (now work) × (16 * n ≤ length (now work)) ⌝ }
     ensures { λ r. ⌜ r ≡ coreBit (geometryAt v n (now (points .entry))) i ⌝ }
 {
     let c = lists::word(work, i);
@@ -122,8 +122,8 @@ fn core_frame(points: &[i16], v: ValidParams, n: usize, work: &[Word], k: usize,
     0
 }
 
-// Writes which frames are core.
-pub fn label_points(points: &[i16], v: ValidParams, n: usize, k: usize, work: &mut [Word])
+// Writes which frames are core, by the frames near each frame of a cell that is not dense.
+fn label_frames(points: &[i16], v: ValidParams, n: usize, k: usize, work: &mut [Word])
     requires { ⌜ Ready (now points) v n × Arranged (geometryAt v n (now points)) k (now work) × (16 * n ≤ length (now work)) × Clear (now work) (10 * n) (6 * n) ⌝ }
     ensures { λ _. ⌜ now (work .exit) ≡ over (now (work .entry)) (4 * n) (column (coreBit (geometryAt v n (now (points .entry)))) n) ⌝ }
 {
@@ -136,7 +136,35 @@ pub fn label_points(points: &[i16], v: ValidParams, n: usize, k: usize, work: &m
         work[CORES * n + i] = b;
         i += 1;
     }
-    lists::clear_words(work, blocks::HEADS * n, 5 * n);
+    lists::clear_words(work, blocks::ENDS * n, 5 * n);
+}
+
+// Whether every cell has at least `min_points` frames.
+fn all_dense(points: &[i16], v: ValidParams, n: usize, k: usize, work: &[Word]) -> bool
+    requires { ⌜ Ready (now points) v n × Arranged (geometryAt v n (now points)) k (now work) ⌝ }
+    ensures { λ r. ⌜ r ≡ not (any (λ c. not (dense (geometryAt v n (now (points .entry))) (cellAt (geometryAt v n (now (points .entry))) c))) (numbers k)) ⌝ }
+{
+    let mut c = 0;
+    while c < k {
+        let end = cell_end(work, n, k, c);
+        if end - lists::word(work, STARTS * n + c) < v.min_points {
+            return false;
+        }
+        c += 1;
+    }
+    true
+}
+
+// Writes which frames are core. (Where every cell is dense all are, and no frame has to be looked for.)
+pub fn label_points(points: &[i16], v: ValidParams, n: usize, k: usize, work: &mut [Word])
+    requires { ⌜ Ready (now points) v n × Arranged (geometryAt v n (now points)) k (now work) × (16 * n ≤ length (now work)) × Clear (now work) (10 * n) (6 * n) ⌝ }
+    ensures { λ _. ⌜ now (work .exit) ≡ over (now (work .entry)) (4 * n) (column (coreBit (geometryAt v n (now (points .entry)))) n) ⌝ }
+{
+    if all_dense(points, v, n, k, work) {
+        lists::fill_words(work, CORES * n, n, 1);
+        return;
+    }
+    label_frames(points, v, n, k, work);
 }
 
 // Whether the words say that frame i is core.

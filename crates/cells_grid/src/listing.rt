@@ -1,31 +1,22 @@
-// The core cells that a cell lists. The first frames of core cells are hashed by blocks 4 × t + 1 wide: so those near a frame lie in the blocks around it.
-// From 10n up to 15n stand the hashed frames, from 15n on the list of one cell.
-use super::blocks::HEADS;
-use super::blocks::NEXTS;
-use super::blocks::block;
-use super::blocks::block_count;
-use super::blocks::edges_at;
-use super::blocks::hash_frame;
-use super::blocks::hash_of;
-use super::blocks::in_block;
+// The core cells that a cell lists. They are sorted by the blocks of their first frames, 4 × t + 1 wide: so those near a frame lie in the rows around it.
+// From 10n up to 15n stand the sorted cells, from 15n on the list of one cell.
+use blocks::ENDS;
+use blocks::KEYS;
 use hyperparams::ValidParams;
 use lists::Word;
 ghost use mathlib.Core.Path.{_≡_};
 ghost use mathlib.Core.Bool.{not, _&&_};
-ghost use Prim.Native.Nat.{ℕ, _+_, _*_, _%_, _<_, _≤_};
+ghost use Prim.Native.Nat.{ℕ, _+_, _-_, _*_, _/_, _<_, _≤_};
 ghost use lib.Dec.{eqb};
-ghost use lib.ListN.{length, getD, take};
-ghost use Rattle.lists.specs.Lists.{nonzero, Below};
-ghost use Rattle.lists.specs.Buckets.{hashes};
-ghost use Rattle.lists.specs.Words.{over, Clear};
-ghost use Rattle.counting_tree.specs.Frames.{framesIn};
-ghost use Rattle.counting_tree.specs.Geometry.{frame};
+ghost use lib.ListN.{length, getD, replicate};
+ghost use Rattle.lists.specs.Lists.{keep, nonzero, Below};
+ghost use Rattle.lists.specs.Words.{over, part, Clear};
 ghost use Rattle.counting_tree.specs.Ready.{geometryAt, Ready};
+ghost use Rattle.blocks.specs.Blocks as Blocks;
+ghost use Rattle.blocks.specs.Blocks.{edgesOf, frameAt, rowHash, rowAround, sortedBy};
 ghost use Rattle.cells_grid.specs.Cells.{cells, coreCell};
 ghost use Rattle.cells_grid.specs.Arrangement.{cellAt, Arranged};
-ghost use Rattle.cells_grid.specs.Blocks as Blocks;
-ghost use Rattle.cells_grid.specs.Blocks.{keyOf, sameNats};
-ghost use Rattle.cells_grid.specs.Listing.{reachOf, unmarked, listIn, heads, nexts, listOf, Hashed};
+ghost use Rattle.cells_grid.specs.Listing.{reachOf, cellKey, nearIn, unmarked, listIn, listOf, Hashed};
 
 // From 5n on: a word on the tree of each cell, 0 where it is no core cell.
 pub const TREES: usize = 5;
@@ -51,86 +42,156 @@ fn width(v: ValidParams) -> u64
     2 * reach(v) + 1
 }
 
-// Hashes the first frames of core cells: after it `list_cells` and `list_unmarked` can be asked.
+// The bucket of cell c's first frame, of 4 × k − 1; one more where it is no core cell.
+fn cell_key(points: &[i16], v: ValidParams, n: usize, k: usize, work: &[Word], c: usize) -> usize
+    requires { ⌜ Ready (now points) v n × Arranged (geometryAt v n (now points)) k (now work) × (c < k) × (6 * n ≤ length (now work)) ⌝ }
+    requires { ⌜ nonzero (getD (now work) (5 * n + c) 0) ≡ coreCell (geometryAt v n (now points)) (cellAt (geometryAt v n (now points)) c) ⌝ }
+    ensures { λ r. ⌜ r ≡ cellKey v n (now (points .entry)) c ⌝ }
+    ensures { λ r. ⌜ r < 4 * k ⌝ }
+{
+    let size = 4 * k - 1;
+    if lists::word(work, TREES * n + c) == 0 {
+        return size;
+    }
+    blocks::key(points, v, n, width(v), size, lists::word(work, n + c))
+}
+
+// Sorts the core cells by the buckets of their first frames' blocks: after it `list_cells` and `list_unmarked` can be asked.
 pub fn hash_cells(points: &[i16], v: ValidParams, n: usize, k: usize, work: &mut [Word])
     requires { ⌜ Ready (now points) v n × Arranged (geometryAt v n (now points)) k (now work) × (16 * n ≤ length (now work)) × Clear (now work) (10 * n) (6 * n) ⌝ }
     requires { ⌜ ((c : ℕ) → c < k → nonzero (getD (now work) (5 * n + c) 0) ≡ coreCell (geometryAt v n (now points)) (cellAt (geometryAt v n (now points)) c)) ⌝ }
-    ensures { λ _. ⌜ now (work .exit) ≡ over (over (now (work .entry)) (10 * n) (heads v n (now (points .entry)))) (14 * n) (nexts v n (now (points .entry))) ⌝ }
+    ensures { λ _. ⌜ now (work .exit) ≡ sortedBy (cellKey v n (now (points .entry))) k n (now (work .entry)) ⌝ }
 {
-    let w = width(v);
     let mut c = 0;
     while c < k {
-        let next = c + 1;
-        if lists::word(work, TREES * n + c) == 0 {
-            c = next;
-        } else {
-            hash_frame(points, v, n, w, work, lists::word(work, n + c));
-            c = next;
-        }
+        let b = cell_key(points, v, n, k, work, c);
+        work[KEYS * n + c] = b as Word;
+        c += 1;
     }
+    lists::sorting::sort(work, KEYS * n, k, ENDS * n, 4 * k, blocks::PLACES * n);
+    lists::clear_words(work, KEYS * n, k);
 }
 
-// Whether the cell of frame j is not marked, and the frame lies in the block that begins at `low`, and near frame i.
-// (Most cells are marked, so that is asked first. Nearly all frames of a bucket lie in one block, so the distance is asked before the block.)
+// Whether cell d is not marked, and its first frame lies in row r of those that begin at `first`, and near frame i.
+// (Most cells are marked, so that is asked first. Nearly all cells of a stretch lie in the row, so the distance is asked before the row.)
 fn is_found(
     points: &[i16],
     v: ValidParams,
     n: usize,
     work: &[Word],
-    low: [u64; 4],
+    first: [u64; 4],
+    r: usize,
     i: usize,
-    j: usize,
+    d: usize,
     marks: usize,
     mark: usize,
 ) -> bool
-    requires { ⌜ Ready (now points) v n × (i < n) × (j < n) × ((q : ℕ) → q < v .channels → getD low q 0 % Blocks.width (reachOf v) ≡ 0) ⌝ }
-    requires { ⌜ (j < length (now work)) × (marks + getD (now work) j 0 < length (now work)) ⌝ }
-    ensures { λ r. ⌜ r ≡ not (eqb (getD (now (work .entry)) (marks + getD (now (work .entry)) j 0) 0) mark)
-        && (sameNats (keyOf (Blocks.width (reachOf v)) (frame v (framesIn n (v .channels) (now (points .entry))) j)) (take (v .channels) low) && geometryAt v n (now (points .entry)) .near i j) ⌝ }
+    requires { ⌜ Ready (now points) v n × (i < n) × (first ≡ over (replicate 4 0) 0 (edgesOf (Blocks.width (reachOf v)) (reachOf v) (frameAt (reachOf v) v n (now points) i))) × Below 65536 first ⌝ }
+    requires { ⌜ Arranged (geometryAt v n (now points)) (length (cells (geometryAt v n (now points)))) (now work) × (d < length (cells (geometryAt v n (now points)))) × (marks + d < length (now work)) ⌝ }
+    ensures { λ b. ⌜ b ≡ not (eqb (getD (now (work .entry)) (marks + d) 0) mark) && nearIn v n (now (points .entry)) i r d ⌝ }
 {
-    let d = lists::word(work, j);
     if lists::word(work, marks + d) == mark {
         return false;
     }
+    let j = lists::word(work, n + d);
     if counting_tree::points::near_cells(points, v, n, i, j) {
-        return in_block(points, v, n, width(v), low, j);
+        return blocks::in_row(points, v, n, width(v), first, r, j);
     }
     false
 }
 
-// Writes the unmarked core cells whose first frames lie in the block that begins at `low`, and near frame i, after the m words from 15n on. Returns how many there are then.
-fn list_block(
+// Writes the unmarked ones of the sorted cells from `from` up to `end` whose first frames lie in row r, and near frame i, after the m words from 15n on. Returns how many there are then.
+fn list_stretch(
     points: &[i16],
     v: ValidParams,
     n: usize,
     work: &mut [Word],
     i: usize,
-    low: [u64; 4],
+    first: [u64; 4],
+    r: usize,
+    from: usize,
+    end: usize,
     m: usize,
     marks: usize,
     mark: usize,
 ) -> usize
-    requires { ⌜ Ready (now points) v n × (i < n) × Below hashes low × ((q : ℕ) → q < v .channels → getD low q 0 % Blocks.width (reachOf v) ≡ 0) ⌝ }
+    requires { ⌜ Ready (now points) v n × (i < n) × (first ≡ over (replicate 4 0) 0 (edgesOf (Blocks.width (reachOf v)) (reachOf v) (frameAt (reachOf v) v n (now points) i))) × Below 65536 first ⌝ }
     requires { ⌜ Arranged (geometryAt v n (now points)) (length (cells (geometryAt v n (now points)))) (now work) × Hashed v n (now points) (now work) × (16 * n ≤ length (now work)) × (marks + n ≤ 10 * n) ⌝ }
-    requires { ⌜ m + length (unmarked (now work) marks mark (listIn v n (now points) i (take (v .channels) low))) ≤ n ⌝ }
-    ensures { λ r. ⌜ r ≡ m + length (unmarked (now (work .entry)) marks mark (listIn v n (now (points .entry)) i (take (v .channels) low))) ⌝ }
-    ensures { λ _. ⌜ now (work .exit) ≡ over (now (work .entry)) (15 * n + m) (unmarked (now (work .entry)) marks mark (listIn v n (now (points .entry)) i (take (v .channels) low))) ⌝ }
+    requires { ⌜ (from ≤ end) × (end ≤ length (cells (geometryAt v n (now points)))) × (m + length (unmarked (now work) marks mark (keep (nearIn v n (now points) i r) (part (now work) (14 * n + from) (end - from)))) ≤ n) ⌝ }
+    ensures { λ s. ⌜ s ≡ m + length (unmarked (now (work .entry)) marks mark (keep (nearIn v n (now (points .entry)) i r) (part (now (work .entry)) (14 * n + from) (end - from)))) ⌝ }
+    ensures { λ _. ⌜ now (work .exit) ≡ over (now (work .entry)) (15 * n + m) (unmarked (now (work .entry)) marks mark (keep (nearIn v n (now (points .entry)) i r) (part (now (work .entry)) (14 * n + from) (end - from)))) ⌝ }
 {
-    let b = lists::buckets::bucket(hash_of(low, v.channels), 4 * n);
     let mut to = m;
-    let mut e = lists::word(work, HEADS * n + b);
-    while e > 0 {
-        let j = e - 1;
-        let next = lists::word(work, NEXTS * n + j);
-        if is_found(points, v, n, work, low, i, j, marks, mark) {
-            work[LIST * n + to] = work[j];
+    let mut p = from;
+    while p < end {
+        let next = p + 1;
+        let d = lists::word(work, blocks::PLACES * n + p);
+        if is_found(points, v, n, work, first, r, i, d, marks, mark) {
+            work[LIST * n + to] = d as Word;
             to += 1;
-            e = next;
+            p = next;
         } else {
-            e = next;
+            p = next;
         }
     }
     to
+}
+
+// Writes the unmarked core cells whose first frames lie in row r, which has the hash h, and near frame i, after the m words from 15n on. Returns how many there are then.
+fn list_row(
+    points: &[i16],
+    v: ValidParams,
+    n: usize,
+    k: usize,
+    work: &mut [Word],
+    i: usize,
+    first: [u64; 4],
+    r: usize,
+    h: u64,
+    along: usize,
+    m: usize,
+    marks: usize,
+    mark: usize,
+) -> usize
+    requires { ⌜ Ready (now points) v n × (i < n) × (first ≡ over (replicate 4 0) 0 (edgesOf (Blocks.width (reachOf v)) (reachOf v) (frameAt (reachOf v) v n (now points) i))) × Below 65536 first ⌝ }
+    requires { ⌜ Arranged (geometryAt v n (now points)) k (now work) × Hashed v n (now points) (now work) × (16 * n ≤ length (now work)) × (marks + n ≤ 10 * n) ⌝ }
+    requires { ⌜ (0 < k) × (h ≡ rowHash (rowAround (reachOf v) v n (now points) i r)) × (along ≡ getD first 0 0 / Blocks.width (reachOf v)) × (m + length (unmarked (now work) marks mark (listIn v n (now points) i r)) ≤ n) ⌝ }
+    ensures { λ s. ⌜ s ≡ m + length (unmarked (now (work .entry)) marks mark (listIn v n (now (points .entry)) i r)) ⌝ }
+    ensures { λ _. ⌜ now (work .exit) ≡ over (now (work .entry)) (15 * n + m) (unmarked (now (work .entry)) marks mark (listIn v n (now (points .entry)) i r)) ⌝ }
+{
+    let size = 4 * k - 1;
+    let s = blocks::stretch_at(work, ENDS * n, blocks::bucket(h, along, size), size);
+    let more = list_stretch(
+        points,
+        v,
+        n,
+        work,
+        i,
+        first,
+        r,
+        s.from,
+        s.to,
+        m,
+        marks,
+        mark,
+    );
+    if s.rest == 0 {
+        return more;
+    }
+    list_stretch(
+        points,
+        v,
+        n,
+        work,
+        i,
+        first,
+        r,
+        0,
+        s.rest,
+        more,
+        marks,
+        mark,
+    )
 }
 
 // Writes the core cells that cell c lists and whose word from `marks` on is not `mark`, from 15n on. Returns how many there are.
@@ -145,19 +206,35 @@ pub fn list_unmarked(
     mark: usize,
 ) -> usize
     requires { ⌜ Ready (now points) v n × Arranged (geometryAt v n (now points)) k (now work) × Hashed v n (now points) (now work) × (c < k) × (16 * n ≤ length (now work)) × (marks + n ≤ 10 * n) ⌝ }
-    ensures { λ r. ⌜ r ≡ length (unmarked (now (work .entry)) marks mark (listOf v n (now (points .entry)) c)) ⌝ }
+    ensures { λ s. ⌜ s ≡ length (unmarked (now (work .entry)) marks mark (listOf v n (now (points .entry)) c)) ⌝ }
     ensures { λ _. ⌜ now (work .exit) ≡ over (now (work .entry)) (15 * n) (unmarked (now (work .entry)) marks mark (listOf v n (now (points .entry)) c)) ⌝ }
 {
     let i = lists::word(work, n + c);
     let w = width(v);
-    let first = edges_at(points, v, n, w, reach(v), i);
-    let blocks = block_count(v.channels);
+    let first = blocks::edges_at(points, v, n, w, reach(v), i);
+    let along = (first[0] / w) as usize;
+    let hashes = blocks::row_hashes(first, w);
+    let rows = blocks::row_count(v.channels);
     let mut m = 0;
-    let mut b = 0;
-    while b < blocks {
-        let next = b + 1;
-        m = list_block(points, v, n, work, i, block(first, w, b), m, marks, mark);
-        b = next;
+    let mut r = 0;
+    while r < rows {
+        let next = r + 1;
+        m = list_row(
+            points,
+            v,
+            n,
+            k,
+            work,
+            i,
+            first,
+            r,
+            hashes[r],
+            along,
+            m,
+            marks,
+            mark,
+        );
+        r = next;
     }
     m
 }

@@ -28,21 +28,24 @@ use Rattle.core_cells.specs.ForestLaws.{grown}
 use Rattle.detail.specs.Prepared.{Prepared}
 
 -- w are the words before `prepare`, w₀ after `clear_words`, w₁ after `populate`, w₂ after `label_points`, w₃ after `build_trees`
-module _ {ps : List ℤ} {v : ValidParams} {n : ℕ} (r : Ready ps v n) (w : List ℕ) {w₀ : List ℕ} (h : 16 * n ≤ length w) (e₀ : w₀ ≡ over w (10 * n) (replicate (6 * n) 0)) where
+module _ {ps : List ℤ} {v : ValidParams} {n : ℕ} (r : Ready ps v n) (w : List ℕ) {w₀ : List ℕ} (h : 24 * n ≤ length w) (e₀ : w₀ ≡ over w (10 * n) (replicate (14 * n) 0)) where
   abbrev g : Geometry
   g = geometryAt v n ps
 
   f : g .frames ≡ n
   f = at-frames v n ps
 
-  h₀ : 16 * n ≤ length w₀
-  h₀ = rw e₀ (omega (arith, over-length w (10 * n) (replicate (6 * n) 0) (omega (arith, length-replicate {A = ℕ} (6 * n) 0))))
+  h₀ : 24 * n ≤ length w₀
+  h₀ = rw e₀ (omega (arith, over-length w (10 * n) (replicate (14 * n) 0) (omega (arith, length-replicate {A = ℕ} (14 * n) 0))))
+
+  all-clear : Clear w₀ (10 * n) (14 * n)
+  all-clear = rw e₀ (made-clear w (10 * n) (14 * n) (omega arith))
 
   clear₀ : Clear w₀ (10 * n) (6 * n)
-  clear₀ = rw e₀ (made-clear w (10 * n) (6 * n) (omega arith))
+  clear₀ = clear-within w₀ (10 * n) (14 * n) (10 * n) (6 * n) all-clear (omega arith) (omega arith)
 
-  pub few-clear : Clear w₀ (10 * n) (3 * n)
-  few-clear = clear-within w₀ (10 * n) (6 * n) (10 * n) (3 * n) clear₀ (omega arith) (omega arith)
+  pub clear-populate : Clear w₀ (10 * n) (3 * n) × Clear w₀ (16 * n) (8 * n)
+  clear-populate = (clear-within w₀ (10 * n) (14 * n) (10 * n) (3 * n) all-clear (omega arith) (omega arith), clear-within w₀ (10 * n) (14 * n) (16 * n) (8 * n) all-clear (omega arith) (omega arith))
 
   module _ {k : ℕ} {w₁ : List ℕ} (e : k ≡ length (cells g)) (e₁ : w₁ ≡ populated g w₀) where
     within₁ : Within (4 * n) w₀ w₁

@@ -18,7 +18,7 @@ ghost use Rattle.counting_tree.specs.Ready.{Ready};
 ghost use Rattle.detail.specs.Prepared.{Prepared};
 
 // Where regions of the work words begin, in multiples of the number of frames: two more than the number of the first node of each cell's tree,
-// what the phases need to be 0 (six regions), the nodes.
+// what the phases need to be 0 (fourteen regions), the nodes (over the last eight of these).
 const TREES: usize = 5;
 
 const CLEAR: usize = 10;
@@ -300,7 +300,7 @@ fn prepare(points: &[i16], v: ValidParams, n: usize, work: &mut [Word]) -> usize
     requires { ⌜ Ready (now points) v n × (workWords n (v .s) ≤ length (now work)) ⌝ }
     ensures { λ r. ⌜ Prepared (now (points .entry)) v n r (now (work .exit)) ⌝ }
 {
-    lists::clear_words(work, CLEAR * n, 6 * n);
+    lists::clear_words(work, CLEAR * n, 14 * n);
     let k = cells_grid::populate(points, v, n, work);
     cells_grid::label_points(points, v, n, k, work);
     core_cells::build_trees(points, v, n, k, work, 0);

@@ -1,93 +1,45 @@
--- The invariant: the frames before i are told core or not, over the words with all frames hashed.
-use mathlib.Core.Path.{refl, _∙_}
-use Prim.Native.Nat.{_-_, _*_}
-use native.Mathlib.Omega.{arith}
+-- Where every cell is dense every frame is core.
+use mathlib.Core.Path.{ap, _∙_}
+use Prim.Native.Nat.{_*_}
+use Rattle.lists.specs.Words.{over}
+use Rattle.cells_grid.proofs.Core.{all-core}
 use borrow.Author.Needs.{needs}
-use Rattle.lists.specs.LoopLaws.{Fill, fill-step}
-use Rattle.counting_tree.specs.Ready.{geometryAt}
-use Rattle.cells_grid.specs.Arrangement.{coreBit}
-use Rattle.cells_grid.proofs.Core.{label-hash, label-start, label-length, label-arranged, label-hashed, label-end}
 use Rattle.cells_grid.proofs.label_points.Statement.{statement}
 use Rattle.cells_grid.proofs.label_points.Tie as tie
 
-abbrev Inv-loop : tie.InvT-loop
-Inv-loop points v n k work₀ read i₀ work i = Fill (coreBit (geometryAt v n points)) work₀ (4 * n) n work i
+all-dense-requires : tie.Need-all-dense-requires
+all-dense-requires c κs = search needs
 
-abbrev μ-loop : tie.MeasureT-loop
-μ-loop points v n k work₀ read i₀ work i = n - i
+mul-fill-words : tie.Need-mul-fill-words
+mul-fill-words c = search needs
 
-read-counts-requires : tie.Need-read-counts-requires Inv-loop μ-loop
-read-counts-requires c κs = search needs
+fill-words-requires : tie.Need-fill-words-requires
+fill-words-requires c κs = search needs
 
-hash-frames-requires : tie.Need-hash-frames-requires Inv-loop μ-loop
-hash-frames-requires c κs = label-hash (c .before .before .before .args .work .now) (c .before .before .before .pre)
+same-length : tie.Need-same-length
+same-length c = search needs
 
-loop-holds : tie.Need-loop-holds Inv-loop μ-loop
-loop-holds c = label-start (c .before .before .before .before .before .before .args .work .now) (c .before .before .before .before .before .before .pre) (c .before .before .hash-frames .ensures)
+returns : tie.Need-returns
+returns c = c .before .before .fill-words .ensures ∙ ap (over (c .before .before .before .before .before .before .before .before .args .work .now) (4 * c .before .before .before .before .before .before .before .before .args .n)) (all-core (c .before .before .before .before .before .before .before .before .pre .0) (c .before .before .before .before .before .before .before .before .pre .1) (c .before .before .before .before .before .all-dense .ensures) (c .before .before .before .before .if1 .taken))
 
-core-frame-requires : tie.Need-core-frame-requires Inv-loop μ-loop
-core-frame-requires c κs =
-    let p = c .before .before .before .before .before .before .before .before .before .pre in
-    let w = c .before .before .before .before .before .before .before .before .before .args .work .now in
-    let e = c .before .before .before .before .before .hash-frames .ensures in
-    let F = c .before .before .loop .inv in
-    ((p .0, label-arranged w p e F, c .before .loop-test .taken), (c .before .before .before .before .before .before .before .read-counts .ensures .1, label-hashed w p e F, omega (arith, label-length w p e F, p .2)))
+label-frames-requires : tie.Need-label-frames-requires
+label-frames-requires c κs = search needs
 
-mul-work : tie.Need-mul-work Inv-loop μ-loop
-mul-work c = omega arith
+same-length-2 : tie.Need-same-length-2
+same-length-2 c = search needs
 
-add-work : tie.Need-add-work Inv-loop μ-loop
-add-work c = omega arith
-
-mul-work-2 : tie.Need-mul-work-2 Inv-loop μ-loop
-mul-work-2 c = omega arith
-
-slice-write-work : tie.Need-slice-write-work Inv-loop μ-loop
-slice-write-work c = omega (arith, label-length (c .before .before .before .before .before .before .before .before .before .before .args .work .now) (c .before .before .before .before .before .before .before .before .before .before .pre) (c .before .before .before .before .before .before .hash-frames .ensures) (c .before .before .before .loop .inv))
-
-add-i : tie.Need-add-i Inv-loop μ-loop
-add-i c = omega arith
-
-loop-less : tie.Need-loop-less Inv-loop μ-loop
-loop-less c = omega arith
-
-loop-again : tie.Need-loop-again Inv-loop μ-loop
-loop-again c = fill-step (c .before .before .before .loop .inv) (c .before .before .loop-test .taken) _ _ refl (c .core-frame .ensures)
-
-mul-clear-words : tie.Need-mul-clear-words Inv-loop μ-loop
-mul-clear-words c = omega arith
-
-mul-clear-words-2 : tie.Need-mul-clear-words-2 Inv-loop μ-loop
-mul-clear-words-2 c = omega arith
-
-clear-words-requires : tie.Need-clear-words-requires Inv-loop μ-loop
-clear-words-requires c κs = omega (arith, label-length (c .before .before .before .before .before .before .before .before .before .args .work .now) (c .before .before .before .before .before .before .before .before .before .pre) (c .before .before .before .before .before .hash-frames .ensures) (c .before .before .loop .inv))
-
-same-length : tie.Need-same-length Inv-loop μ-loop
-same-length c = c .before .before .clear-words .kept .0 ∙ label-length (c .before .before .before .before .before .before .before .before .before .before .before .before .args .work .now) (c .before .before .before .before .before .before .before .before .before .before .before .before .pre) (c .before .before .before .before .before .before .before .before .hash-frames .ensures) (c .before .before .before .before .before .loop .inv)
-
-returns : tie.Need-returns Inv-loop μ-loop
-returns c = c .before .before .clear-words .ensures ∙ label-end (c .before .before .before .before .before .before .before .before .before .before .before .before .args .work .now) (c .before .before .before .before .before .before .before .before .before .before .before .before .pre) (c .before .before .before .before .before .before .before .before .hash-frames .ensures) (c .before .before .before .before .before .loop .inv) (c .before .before .before .before .loop-test .left)
+returns-2 : tie.Need-returns-2
+returns-2 c = search needs
 
 pub label-points-spec : {M : Type 1} → statement M
 label-points-spec =
     tie.close
     (tie.spec
-    Inv-loop
-    μ-loop
-    read-counts-requires
-    hash-frames-requires
-    loop-holds
-    core-frame-requires
-    mul-work
-    add-work
-    mul-work-2
-    slice-write-work
-    add-i
-    loop-less
-    loop-again
-    mul-clear-words
-    mul-clear-words-2
-    clear-words-requires
+    all-dense-requires
+    mul-fill-words
+    fill-words-requires
     same-length
-    returns)
+    returns
+    label-frames-requires
+    same-length-2
+    returns-2)

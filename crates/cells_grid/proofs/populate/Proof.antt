@@ -5,7 +5,7 @@ use Rattle.cells_grid.proofs.populate.Statement.{statement}
 use Rattle.cells_grid.proofs.populate.Tie as tie
 
 insert-points-requires : tie.Need-insert-points-requires
-insert-points-requires c κs = (c .before .before .pre .0, (c .before .before .pre .1, c .before .before .pre .2))
+insert-points-requires c κs = (c .before .before .pre .0, (c .before .before .pre .1, c .before .before .pre .2, c .before .before .pre .3))
 
 arrange-requires : tie.Need-arrange-requires
 arrange-requires c κs = numbered-fits (c .before .before .before .before .before .before .pre .0) _ (c .before .before .before .before .before .before .pre .1, c .before .before .before .before .before .before .pre .2) (c .before .before .before .insert-points .ensures)

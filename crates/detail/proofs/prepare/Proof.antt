@@ -1,5 +1,5 @@
 -- What the words hold after each step.
-use Rattle.detail.proofs.Preparing.{few-clear, arranged₁, clear₁, cored₂, clear₂, prepared₃}
+use Rattle.detail.proofs.Preparing.{clear-populate, arranged₁, clear₁, cored₂, clear₂, prepared₃}
 use native.Mathlib.Omega.{arith}
 use borrow.Author.Needs.{needs}
 use Rattle.detail.proofs.prepare.Statement.{statement}
@@ -16,7 +16,8 @@ clear-words-requires c κs = search needs
 
 populate-requires : tie.Need-populate-requires
 populate-requires c κs =
-    (c .before .before .before .before .before .before .pre .0, search needs, few-clear (c .before .before .before .before .before .before .pre .0) (c .before .before .before .before .before .before .args .work .now) (omega arith) (c .before .before .before .clear-words .ensures))
+    let z = clear-populate (c .before .before .before .before .before .before .pre .0) (c .before .before .before .before .before .before .args .work .now) (omega arith) (c .before .before .before .clear-words .ensures) in
+    (c .before .before .before .before .before .before .pre .0, search needs, z .0, z .1)
 
 label-points-requires : tie.Need-label-points-requires
 label-points-requires c κs = (

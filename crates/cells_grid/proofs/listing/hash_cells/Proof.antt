@@ -1,87 +1,75 @@
--- Cell by cell: a cell with a tree is hashed.
-use mathlib.Core.Path.{ap}
-use Prim.Native.Nat.{ℕ, _-_, _*_, _≤_}
+-- The keys are written, then sorted, then cleared.
+use mathlib.Core.Path.{refl, _∙_}
+use Prim.Native.Nat.{_-_, _*_}
 use native.Mathlib.Omega.{arith}
-use Rattle.lists.specs.Buckets.{hashOf, bucket}
-use Rattle.counting_tree.specs.Frames.{framesIn}
-use Rattle.counting_tree.specs.Geometry.{frame}
-use Rattle.cells_grid.specs.Blocks.{keyOf}
-use Rattle.cells_grid.proofs.Hashing.{Hashing, hashing-few, hashing-start, hashing-length, hashing-skip, hashing-below, hashing-push, hashing-end}
+use Rattle.lists.specs.LoopLaws.{Fill, fill-start, fill-length, fill-step}
+use Rattle.cells_grid.specs.Listing.{cellKey}
+use Rattle.cells_grid.proofs.Hashing.{cells-few, keys-arranged, keys-tree, keys-sortable, keys-sorted}
 use Rattle.cells_grid.proofs.listing.hash_cells.Statement.{statement}
 use Rattle.cells_grid.proofs.listing.hash_cells.Tie as tie
 
 abbrev Inv-loop : tie.InvT-loop
-Inv-loop points v n k work₀ w c₀ work c = (c ≤ k) × Hashing v n points work₀ work c
+Inv-loop points v n k work₀ c₀ work c = Fill (cellKey v n points) work₀ (15 * n) k work c
 
 abbrev μ-loop : tie.MeasureT-loop
-μ-loop points v n k work₀ w c₀ work c = k - c
-
-width-requires : tie.Need-width-requires Inv-loop μ-loop
-width-requires c κs = c .before .pre .0 .0 .settings .scale .high
+μ-loop points v n k work₀ c₀ work c = k - c
 
 loop-holds : tie.Need-loop-holds Inv-loop μ-loop
-loop-holds c =
-    let p = c .before .before .pre in
-    (omega arith, hashing-start (p .0 .0) (p .0 .1) (p .0 .2) (p .0 .3) (p .1))
+loop-holds c = fill-start (omega (arith, c .before .pre .0 .0 .few, cells-few (c .before .pre .0 .0) (c .before .pre .0 .1), c .before .pre .0 .2))
 
-add-next : tie.Need-add-next Inv-loop μ-loop
-add-next c =
-    let p = c .before .before .before .before .pre in
-    omega (arith, p .0 .0 .few, hashing-few (p .0 .0) (p .0 .1) (p .0 .2) (p .0 .3) (p .1))
+cell-key-requires : tie.Need-cell-key-requires Inv-loop μ-loop
+cell-key-requires c κs = ((c .before .before .before .before .pre .0 .0, keys-arranged (c .before .before .before .before .pre .0 .0) (c .before .before .before .before .pre .0 .1) (c .before .before .before .before .pre .0 .2) (c .before .before .before .before .pre .0 .3) (c .before .before .before .before .pre .1) (c .before .before .loop .inv), c .before .loop-test .taken, omega (arith, c .before .before .before .before .pre .0 .2, fill-length (c .before .before .loop .inv))), keys-tree (c .before .before .before .before .pre .0 .0) (c .before .before .before .before .pre .0 .1) (c .before .before .before .before .pre .0 .2) (c .before .before .before .before .pre .0 .3) (c .before .before .before .before .pre .1) (c .before .before .loop .inv) (c .before .loop-test .taken))
 
-mul-word : tie.Need-mul-word Inv-loop μ-loop
-mul-word c = omega (arith, c .before .before .before .before .before .pre .0 .0 .few)
+cast-work : tie.Need-cast-work Inv-loop μ-loop
+cast-work c = omega (arith, c .cell-key .ensures .1, c .before .before .before .before .before .pre .0 .0 .few, cells-few (c .before .before .before .before .before .pre .0 .0) (c .before .before .before .before .before .pre .0 .1))
 
-add-word : tie.Need-add-word Inv-loop μ-loop
-add-word c =
-    let p = c .before .before .before .before .before .pre in
-    omega (arith, p .0 .0 .few, hashing-few (p .0 .0) (p .0 .1) (p .0 .2) (p .0 .3) (p .1))
+mul-work : tie.Need-mul-work Inv-loop μ-loop
+mul-work c = omega (arith, c .before .before .before .before .before .pre .0 .0 .few, cells-few (c .before .before .before .before .before .pre .0 .0) (c .before .before .before .before .before .pre .0 .1))
 
-word-requires : tie.Need-word-requires Inv-loop μ-loop
-word-requires c κs =
-    let p = c .before .before .before .before .before .pre in
-    omega (arith, p .0 .2, hashing-few (p .0 .0) (p .0 .1) (p .0 .2) (p .0 .3) (p .1), hashing-length (p .0 .0) (p .0 .1) (p .0 .2) (p .0 .3) (p .1) (c .before .before .loop .inv .1))
+add-work : tie.Need-add-work Inv-loop μ-loop
+add-work c = omega (arith, c .before .before .before .before .before .pre .0 .0 .few, cells-few (c .before .before .before .before .before .pre .0 .0) (c .before .before .before .before .before .pre .0 .1))
+
+mul-work-2 : tie.Need-mul-work-2 Inv-loop μ-loop
+mul-work-2 c = omega (arith, c .before .before .before .before .before .pre .0 .0 .few, cells-few (c .before .before .before .before .before .pre .0 .0) (c .before .before .before .before .before .pre .0 .1))
+
+slice-write-work : tie.Need-slice-write-work Inv-loop μ-loop
+slice-write-work c = omega (arith, c .before .before .before .before .before .pre .0 .0 .few, cells-few (c .before .before .before .before .before .pre .0 .0) (c .before .before .before .before .before .pre .0 .1), fill-length (c .before .before .before .loop .inv), c .before .before .before .before .before .pre .0 .2, c .before .before .loop-test .taken)
+
+add-c : tie.Need-add-c Inv-loop μ-loop
+add-c c = omega (arith, c .before .before .before .before .before .pre .0 .0 .few, cells-few (c .before .before .before .before .before .pre .0 .0) (c .before .before .before .before .before .pre .0 .1), c .before .before .loop-test .taken)
 
 loop-less : tie.Need-loop-less Inv-loop μ-loop
 loop-less c = omega arith
 
 loop-again : tie.Need-loop-again Inv-loop μ-loop
-loop-again c =
-    let p = c .before .before .before .before .before .before .before .pre in
-    (omega arith, hashing-skip (p .0 .0) (p .0 .1) (p .0 .2) (p .0 .3) (p .1) (c .before .before .before .before .loop .inv .1) (c .before .before .before .loop-test .taken) (c .before .word .ensures) (c .if1 .taken))
+loop-again c = fill-step (c .before .before .before .loop .inv) (c .before .before .loop-test .taken) _ _ refl (c .cell-key .ensures .0)
 
-add-word-2 : tie.Need-add-word-2 Inv-loop μ-loop
-add-word-2 c =
-    let p = c .before .before .before .before .before .before .before .before .before .pre in
-    omega (arith, p .0 .0 .few, hashing-few (p .0 .0) (p .0 .1) (p .0 .2) (p .0 .3) (p .1))
+mul-sort : tie.Need-mul-sort Inv-loop μ-loop
+mul-sort c = omega (arith, c .before .before .before .before .pre .0 .0 .few, cells-few (c .before .before .before .before .pre .0 .0) (c .before .before .before .before .pre .0 .1))
 
-word-requires-2 : tie.Need-word-requires-2 Inv-loop μ-loop
-word-requires-2 c κs =
-    let p = c .before .before .before .before .before .before .before .before .before .pre in
-    omega (arith, p .0 .2, hashing-few (p .0 .0) (p .0 .1) (p .0 .2) (p .0 .3) (p .1), hashing-length (p .0 .0) (p .0 .1) (p .0 .2) (p .0 .3) (p .1) (c .before .before .before .before .before .before .loop .inv .1))
+mul-sort-2 : tie.Need-mul-sort-2 Inv-loop μ-loop
+mul-sort-2 c = omega (arith, c .before .before .before .before .pre .0 .0 .few, cells-few (c .before .before .before .before .pre .0 .0) (c .before .before .before .before .pre .0 .1))
 
-hash-frame-requires : tie.Need-hash-frame-requires Inv-loop μ-loop
-hash-frame-requires c κs =
-    let p = c .before .before .before .before .before .before .before .before .before .before .pre in
-    (p .0 .0, hashing-below (p .0 .0) (p .0 .1) (p .0 .2) (p .0 .3) (p .1) (c .before .before .before .before .before .before .before .loop .inv .1) (c .before .before .before .before .before .before .loop-test .taken) (c .before .before .before .before .word .ensures) (c .before .before .before .if1 .left) (c .word2 .ensures), omega (arith, c .before .before .before .before .before .before .before .before .width .ensures), omega (arith, p .0 .2, hashing-length (p .0 .0) (p .0 .1) (p .0 .2) (p .0 .3) (p .1) (c .before .before .before .before .before .before .before .loop .inv .1)))
+mul-sort-3 : tie.Need-mul-sort-3 Inv-loop μ-loop
+mul-sort-3 c = omega (arith, c .before .before .before .before .pre .0 .0 .few, cells-few (c .before .before .before .before .pre .0 .0) (c .before .before .before .before .pre .0 .1))
 
-loop-less-2 : tie.Need-loop-less-2 Inv-loop μ-loop
-loop-less-2 c = omega arith
+mul-sort-4 : tie.Need-mul-sort-4 Inv-loop μ-loop
+mul-sort-4 c = omega (arith, c .before .before .before .before .pre .0 .0 .few, cells-few (c .before .before .before .before .pre .0 .0) (c .before .before .before .before .pre .0 .1))
 
-loop-again-2 : tie.Need-loop-again-2 Inv-loop μ-loop
-loop-again-2 c =
-    let p = c .before .before .before .before .before .before .before .before .before .before .before .before .before .pre in
-    (omega arith, hashing-push (p .0 .0) (p .0 .1) (p .0 .2) (p .0 .3) (p .1) (c .before .before .before .before .before .before .before .before .before .before .loop .inv .1) (c .before .before .before .before .before .before .before .before .before .loop-test .taken) (c .before .before .before .before .before .before .before .word .ensures) (c .before .before .before .before .before .before .if1 .left) (c .before .before .before .word2 .ensures) (ap (λ (z : ℕ). bucket (4 * c .before .before .before .before .before .before .before .before .before .before .before .before .before .args .n) (hashOf (keyOf z (frame (c .before .before .before .before .before .before .before .before .before .before .before .before .before .args .v) (framesIn (c .before .before .before .before .before .before .before .before .before .before .before .before .before .args .n) (c .before .before .before .before .before .before .before .before .before .before .before .before .before .args .v .channels) (c .before .before .before .before .before .before .before .before .before .before .before .before .before .args .points .now)) (c .before .before .before .word2 .result))))) (c .before .before .before .before .before .before .before .before .before .before .before .width .ensures)) (c .before .before .hash-frame .ensures))
+sort-requires : tie.Need-sort-requires Inv-loop μ-loop
+sort-requires c κs = keys-sortable (c .before .before .before .before .pre .0 .0) (c .before .before .before .before .pre .0 .1) (c .before .before .before .before .pre .0 .2) (c .before .before .before .before .pre .0 .3) (c .before .before .before .before .pre .1) (c .before .before .loop .inv) (c .before .loop-test .left)
+
+mul-clear-words : tie.Need-mul-clear-words Inv-loop μ-loop
+mul-clear-words c = omega (arith, c .before .before .before .before .before .before .before .before .pre .0 .0 .few, cells-few (c .before .before .before .before .before .before .before .before .pre .0 .0) (c .before .before .before .before .before .before .before .before .pre .0 .1))
+
+clear-words-requires : tie.Need-clear-words-requires Inv-loop μ-loop
+clear-words-requires c κs = omega (arith, c .before .before .before .before .before .before .before .before .pre .0 .0 .few, cells-few (c .before .before .before .before .before .before .before .before .pre .0 .0) (c .before .before .before .before .before .before .before .before .pre .0 .1), fill-length (c .before .before .before .before .before .before .loop .inv), c .before .before .before .before .before .before .before .before .pre .0 .2, c .before .before .before .sort .kept .0)
 
 same-length : tie.Need-same-length Inv-loop μ-loop
-same-length c =
-    let p = c .before .before .before .before .pre in
-    hashing-length (p .0 .0) (p .0 .1) (p .0 .2) (p .0 .3) (p .1) (c .before .loop .inv .1)
+same-length c = c .before .before .clear-words .kept .0 ∙ c .before .before .before .before .before .before .sort .kept .0 ∙ fill-length (c .before .before .before .before .before .before .before .before .before .loop .inv)
 
 returns : tie.Need-returns Inv-loop μ-loop
-returns c =
-    let p = c .before .before .before .before .pre in
-    hashing-end (p .0 .0) (p .0 .1) (p .0 .2) (p .0 .3) (p .1) (c .before .loop .inv .1) (c .loop-test .left)
+returns c = c .before .before .clear-words .ensures ∙ keys-sorted (c .before .before .before .before .before .before .before .before .before .before .before .pre .0 .0) (c .before .before .before .before .before .before .before .before .before .before .before .pre .0 .1) (c .before .before .before .before .before .before .before .before .before .before .before .pre .0 .2) (c .before .before .before .before .before .before .before .before .before .before .before .pre .0 .3) (c .before .before .before .before .before .before .before .before .before .before .before .pre .1) (c .before .before .before .before .before .before .before .before .before .loop .inv) (c .before .before .before .before .before .before .before .before .loop-test .left) (c .before .before .before .before .before .before .sort .ensures)
 
 pub hash-cells-spec : {M : Type 1} → statement M
 hash-cells-spec =
@@ -89,18 +77,22 @@ hash-cells-spec =
     (tie.spec
     Inv-loop
     μ-loop
-    width-requires
     loop-holds
-    add-next
-    mul-word
-    add-word
-    word-requires
+    cell-key-requires
+    cast-work
+    mul-work
+    add-work
+    mul-work-2
+    slice-write-work
+    add-c
     loop-less
     loop-again
-    add-word-2
-    word-requires-2
-    hash-frame-requires
-    loop-less-2
-    loop-again-2
+    mul-sort
+    mul-sort-2
+    mul-sort-3
+    mul-sort-4
+    sort-requires
+    mul-clear-words
+    clear-words-requires
     same-length
     returns)

@@ -1,13 +1,9 @@
 -- No word is 65536, so no cell is left out.
-use mathlib.Core.Path.{_≡_, ap, _∙_}
-use mathlib.Core.List.{List}
-use Prim.Native.Nat.{ℕ, _+_, _*_}
+use Prim.Native.Nat.{_+_, _*_}
 use native.Mathlib.Omega.{arith}
-use lib.ListN.{length}
-use Rattle.lists.specs.Words.{over}
-use Rattle.cells_grid.specs.Listing.{unmarked, listOf}
-use Rattle.cells_grid.specs.ListingLaws.{unmarked-all}
 use borrow.Author.Needs.{needs}
+use Rattle.cells_grid.specs.Listing.{listOf}
+use Rattle.cells_grid.proofs.Gathering.{none-marked}
 use Rattle.cells_grid.proofs.listing.list_cells.Statement.{statement}
 use Rattle.cells_grid.proofs.listing.list_cells.Tie as tie
 
@@ -21,12 +17,7 @@ same-length : tie.Need-same-length
 same-length c = search needs
 
 returns : tie.Need-returns
-returns c =
-    let n : ℕ = c .before .before .before .before .before .args .n in
-    let w : List ℕ = c .before .before .before .before .before .args .work .now in
-    let ds : List ℕ = listOf (c .before .before .before .before .before .args .v) n (c .before .before .before .before .before .args .points .now) (c .before .before .before .before .before .args .c) in
-    let e : unmarked w (5 * n) 65536 ds ≡ ds = unmarked-all w (5 * n) 65536 ds (λ d i h. omega (arith, h, c .before .before .before .before .slice-known .given (5 * n + d))) in
-    (c .before .before .list-unmarked .ensures .0 ∙ ap length e, c .before .before .list-unmarked .ensures .1 ∙ ap (over w (15 * n)) e)
+returns c = none-marked (c .before .before .before .before .before .args .work .now) (5 * c .before .before .before .before .before .args .n) 65536 (15 * c .before .before .before .before .before .args .n) (listOf (c .before .before .before .before .before .args .v) (c .before .before .before .before .before .args .n) (c .before .before .before .before .before .args .points .now) (c .before .before .before .before .before .args .c)) (λ d h. omega (arith, h, c .before .before .before .before .slice-known .given (5 * c .before .before .before .before .before .args .n + d))) (c .before .before .list-unmarked .ensures)
 
 pub list-cells-spec : {M : Type 1} → statement M
 list-cells-spec = tie.close (tie.spec mul-list-unmarked list-unmarked-requires same-length returns)
