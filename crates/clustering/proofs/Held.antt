@@ -1,5 +1,5 @@
 -- What the words that hold a run's cells and trees say of them.
-use mathlib.Core.Path.{_≡_, sym, ap, _∙_, subst}
+use mathlib.Core.Path.{_≡_, refl, sym, ap, _∙_, subst}
 use mathlib.Core.Logic.{inl, inr}
 use mathlib.Core.Bool.{Bool, true, false, not}
 use mathlib.Core.List.{List}
@@ -18,7 +18,8 @@ use Rattle.cells_grid.specs.Cells.{cells, cellNumber, core, listed, coreCell, c
 use Rattle.cells_grid.specs.Lawful.{Lawful}
 use Rattle.cells_grid.specs.Ready.{ready-lawful}
 use Rattle.cells_grid.specs.Arrangement.{cellAt, coreBit, Arranged}
-use Rattle.cells_grid.specs.ArrangementLaws.{words-count, number-word, number-below, core-word}
+use Rattle.cells_grid.specs.Places.{endIn}
+use Rattle.cells_grid.specs.ArrangementLaws.{words-count, cell-size, number-word, number-below, core-word}
 use Rattle.core_cells.specs.Forest.{Grown}
 use Rattle.core_cells.specs.ForestLaws.{word-room, is-core-cell, no-tree-node}
 use Rattle.clustering.specs.Uniting.{pairAt}
@@ -51,6 +52,10 @@ module _ {ps : List ℤ} {v : ValidParams} {n : ℕ} (r : Ready ps v n) {k : ℕ
   room =
       let e : part w (4 * n) n ≡ column (coreBit g) n = subst (λ (m : ℕ). part w (4 * m) m ≡ column (coreBit g) m) frames (gr .cored .cores) in
       omega (arith, ap length e, length-take n (drop (4 * n) w), length-drop (4 * n) w, length-numbers (coreBit g) n)
+
+  -- what `frames_first` asks: the frames of a cell begin before they end
+  pub can-order : {c : ℕ} → c < k → (c < k) × (k ≤ n) × (3 * n ≤ length w) × (getD w (2 * n + c) 0 ≤ endIn w n k c)
+  can-order {c} h = (h, few-cells, omega (arith, room), omega (arith, cell-size g lawful (gr .cored .cells) n frames c h refl refl))
 
   pub arranged-all : Arranged g (length (cells g)) w
   arranged-all = subst (λ (m : ℕ). Arranged g m w) cell-count (gr .cored .cells)

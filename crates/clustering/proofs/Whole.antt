@@ -1,4 +1,4 @@
--- Hashing, uniting, numbering, labelling and clearing, one after the other: what the words are after each.
+-- Sorting the cells, uniting, numbering, labelling and clearing, one after the other: what the words are after each.
 use mathlib.Core.Path.{_≡_, sym, ap, _∙_, subst}
 use mathlib.Core.Bool.{Bool}
 use mathlib.Core.List.{List, []}
@@ -15,9 +15,10 @@ use Rattle.hyperparams.specs.Params.{maxFrames}
 use Rattle.hyperparams.specs.declared.ValidParams.{ValidParams}
 use Rattle.counting_tree.specs.Geometry.{Geometry}
 use Rattle.counting_tree.specs.Ready.{geometryAt, Ready}
+use Rattle.blocks.specs.Blocks.{sortedBy}
 use Rattle.cells_grid.specs.Cells.{coreCell}
 use Rattle.cells_grid.specs.Arrangement.{cellAt}
-use Rattle.cells_grid.specs.Listing.{Hashed}
+use Rattle.cells_grid.specs.Listing.{cellKey, Hashed}
 use Rattle.core_cells.specs.Forest.{Grown}
 use Rattle.clustering.specs.Clusters.{place, clusters, labelBy, kindOf}
 use Rattle.clustering.specs.Uniting.{uniting, lowestAt}
@@ -46,10 +47,13 @@ module _ {ps : List ℤ} {v : ValidParams} {n : ℕ} (r : Ready ps v n) {k : ℕ
   led : Led isCore low k
   led = subst (Led isCore low) (sym (cell-count r gr)) (lowest-led g (n * n))
 
-  -- ---- hashed
-  module _ {w₀ : List ℕ} (e₀ : w₀ ≡ hashed ps v n w) where
+  -- ---- sorted
+  module _ {w₀ : List ℕ} (e₀ : w₀ ≡ sortedBy (cellKey v n ps) k n w) where
+    sorted₀ : w₀ ≡ hashed ps v n w
+    sorted₀ = e₀ ∙ ap (λ (m : ℕ). sortedBy (cellKey v n ps) m n w) (cell-count r gr)
+
     pub search₀ : CanSearch ps v n k w₀
-    search₀ = subst (CanSearch ps v n k) (sym e₀) (search-start r gr l cl)
+    search₀ = subst (CanSearch ps v n k) (sym sorted₀) (search-start r gr l cl)
 
     -- ---- united
     module _ {w₁ : List ℕ} (e₁ : w₁ ≡ over w₀ (6 * n) (column low k)) where
@@ -108,7 +112,7 @@ module _ {ps : List ℤ} {v : ValidParams} {n : ℕ} (r : Ready ps v n) {k : ℕ
           hashed-on : HashedOn ps v n (all w) w₃
           hashed-on =
               subst (HashedOn ps v n (all w)) (sym all-laid)
-              (hashed-on-over r (hashed-on-over r (hashed-on-over r (hashed-on-over r (record { room = l; clear = cl; laid = e₀ })
+              (hashed-on-over r (hashed-on-over r (hashed-on-over r (hashed-on-over r (record { room = l; clear = cl; laid = sorted₀ })
               (6 * n) (column low k) (omega (arith, length-numbers low k, few)))
               (7 * n) numbered (omega (arith, length-numbers (clusterWord g) k, few)))
               (8 * n) labels (omega (arith, length-numbers (labelBy g (λ c. place c (clusters g))) n)))

@@ -78,8 +78,9 @@ fn border_cell(
         let next = j + 1;
         let c = lists::word(work, LIST * n + j);
         if c < b {
-            let root = core_cells::root_box(points, v, n, k, work, c);
-            if core_cells::reaches(points, v, n, k, work, i, c, root) {
+            let first = core_cells::frames_first(v, n, k, work, c);
+            let root = core_cells::root_unless(first, points, v, n, k, work, c);
+            if core_cells::reaches(points, v, n, k, work, i, c, first, root) {
                 b = c;
                 j = next;
             } else {

@@ -1,6 +1,6 @@
 // Sets of linked core cells, and the labels of frames, in words of one lent slice.
 // `v` has the settings, `n` is the number of frames, `k` the number of cells.
-use cells_grid::blocks::HEADS;
+use blocks::ENDS;
 use hyperparams::ValidParams;
 use lists::Word;
 ghost use mathlib.Core.Path.{_≡_};
@@ -46,6 +46,6 @@ pub fn label(points: &[i16], v: ValidParams, n: usize, k: usize, work: &mut [Wor
     uniting::unite_listed_cells(points, v, n, k, work);
     let m = labels::number_clusters(work, n, k);
     labels::label_frames(points, v, n, k, work, m);
-    lists::clear_words(work, HEADS * n, 5 * n);
+    lists::clear_words(work, ENDS * n, 5 * n);
     m
 }

@@ -48,14 +48,15 @@ pub fn touches_cell(
     requires { ⌜ Ready (now points) v n × Grown (geometryAt v n (now points)) k (now work) × (c < k) × (d < k) ⌝ }
     ensures { λ r. ⌜ (let g = geometryAt v n (now (points .entry)) in r ≡ touches g (cellAt g c) (cellAt g d)) ⌝ }
 {
-    let root = core_cells::root_box(points, v, n, k, work, d);
+    let first = core_cells::frames_first(v, n, k, work, d);
+    let root = core_cells::root_unless(first, points, v, n, k, work, d);
     let end = cells_grid::cell_end(work, n, k, c);
     let mut p = lists::word(work, STARTS * n + c);
     while p < end {
         let next = p + 1;
         let i = lists::word(work, PLACES * n + p);
         if cells_grid::is_core(work, n, i) {
-            if core_cells::reaches(points, v, n, k, work, i, d, root) {
+            if core_cells::reaches(points, v, n, k, work, i, d, first, root) {
                 return true;
             }
             p = next;

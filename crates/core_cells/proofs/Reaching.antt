@@ -1,13 +1,14 @@
 -- What a cell's root box and its frames say of the count in its tree: by whole numbers of the box, a core frame nearer than t, all of them out of reach, or their own paths.
-use mathlib.Core.Path.{_≡_, sym, ap, subst, _∙_}
-use mathlib.Core.Bool.{Bool, true, false, not}
-use mathlib.Core.List.{List}
+use mathlib.Core.Path.{_≡_, refl, sym, ap, subst, _∙_}
+use mathlib.Core.Logic.{_⊎_, ⊎-elim}
+use mathlib.Core.Bool.{Bool, true, false, not, cond}
+use mathlib.Core.List.{List, []}
 use Prim.Native.Nat.{ℕ, _+_, _-_, _*_, _^_, _<_, _≤_}
 use native.Mathlib.Omega.{arith}
 use native.Mathlib.Nat.{mul-le-mul-right}
 use borrow.Author.Tests.{leb-true, not-false}
 use lib.IntN.{ℤ}
-use lib.Dec.{T, eqb}
+use lib.Dec.{T, ltb, eqb}
 use lib.ListN.{length, getD, take}
 use lib.Ieee.{Float}
 use Rattle.lists.specs.Lists.{In, Below, any, nonzero}
@@ -17,12 +18,13 @@ use Rattle.hyperparams.specs.declared.ValidParams.{ValidParams}
 use Rattle.hyperparams.specs.Params.{float}
 use Rattle.counting_tree.specs.declared.Box.{Box}
 use Rattle.counting_tree.specs.declared.IntersectionType.{IntersectionType}
-use Rattle.counting_tree.specs.declared.IntersectionType.the-variants.{Disjoint, FullyCovered}
+use Rattle.counting_tree.specs.declared.IntersectionType.the-variants.{Disjoint, FullyCovered, Intersecting}
 use Rattle.counting_tree.specs.Frames.{Frame, framesIn, floats}
 use Rattle.counting_tree.specs.Grid.{sideAt, centres}
 use Rattle.counting_tree.specs.Box.{sumFrom}
 use Rattle.counting_tree.specs.Geometry.{Geometry, frame, N, FarReach}
 use Rattle.counting_tree.specs.Paths as Paths
+use Rattle.counting_tree.specs.Paths.{onBox}
 use Rattle.counting_tree.specs.Domain.{Counts}
 use Rattle.counting_tree.specs.Ready.{geometryAt, Ready, at-frames}
 use Rattle.counting_tree.specs.Reach.{near-reaches, reaches-far}
@@ -37,15 +39,29 @@ use Rattle.cells_grid.specs.Places.{endIn}
 use Rattle.cells_grid.specs.ArrangementLaws.{arranged-below, words-count, cell-size, cell-end-le}
 use Rattle.tree_structure.specs.declared.Counted.{Counted}
 use Rattle.tree_structure.specs.Encode.{toldOf}
-use Rattle.core_cells.specs.Forest.{coreAmong, treeFrames, Grown}
+use Rattle.core_cells.specs.Forest.{coreAmong, treeFrames, isCore, Grown}
 use Rattle.core_cells.specs.ForestLaws.{frames-below, no-tree-node, is-core-cell, among-core}
 use Rattle.core_cells.specs.Nearest.{CanLook, beyond, leastUntil, outOfReach}
 use Rattle.core_cells.specs.NearestLaws.{among-place, least-found, least-le}
-use Rattle.core_cells.specs.RootBox.{rootBox}
+use Rattle.core_cells.specs.RootBox.{rootBox, rootUnless}
 use Rattle.core_cells.specs.RootBoxLaws.{disjoint-count, covered-count, root-centre}
+use Rattle.core_cells.specs.Settling.{settledByLeast, settledByFrames, settledByRoot, Tells}
 use Rattle.core_cells.proofs.Counting.{word-inside}
 use Rattle.core_cells.proofs.Looking.{square-fits}
 use Rattle.core_cells.proofs.Rooted.{first-is, first-low}
+
+-- what is told, where it is not left open, is the answer. (The third variant has neither the first key nor the second.)
+pub settled-is : {a b : Bool} (told : IntersectionType) → (told ≡ Intersecting → _≡_ {A = ℕ} 2 0 ⊎ _≡_ {A = ℕ} 2 1) → onBox told b ≡ b → a ≡ onBox told false → a ≡ b
+settled-is Disjoint k t e = e ∙ t
+settled-is FullyCovered k t e = e ∙ t
+settled-is Intersecting k t e = absurd (⊎-elim (λ h. omega (arith, h)) (λ h. omega (arith, h)) (k refl))
+
+-- where the frames do not come first, the box that is handed on is the root box
+pub not-first : {ps : List ℤ} {v : ValidParams} {n k : ℕ} {w : List ℕ} {q c : ℕ} {first : Bool} {root : Box}
+    → Ready ps v n × Grown (geometryAt v n ps) k w × (q < n) × (c < k) × (root ≡ rootUnless first v n ps c) → first ≡ false
+    → Ready ps v n × Grown (geometryAt v n ps) k w × (q < n) × (c < k) × (root ≡ rootBox v n ps c)
+unfolding rootUnless
+not-first p f = (p .0, p .1, p .2, p .3, rw f at (p .4))
 
 -- what is asked with a root box, without it
 pub asked : {ps : List ℤ} {v : ValidParams} {n k : ℕ} {w : List ℕ} {q c : ℕ} {root : Box} → Ready ps v n × Grown (geometryAt v n ps) k w × (q < n) × (c < k) × (root ≡ rootBox v n ps c)
@@ -92,6 +108,15 @@ module _ {ps : List ℤ} {v : ValidParams} {n k : ℕ} {w : List ℕ} {q c : ℕ
   treeless true z f = absurd (true-T f)
   treeless false z f = sym (ap (λ (x : List ℕ). nonzero (length x)) (no-tree-node g c (sym (z ∙ is-core-cell (p .1) e c (p .3))) q))
 
+  -- what the words say of its core frames
+  core-is : {b : Bool} → b ≡ nonzero (getD w (5 * n + c) 0) → isCore g c ≡ b
+  core-is z = sym (z ∙ is-core-cell (p .1) e c (p .3))
+
+  pub no-core : (b : Bool) → b ≡ nonzero (getD w (5 * n + c) 0) → not b ≡ true → Disjoint ≡ settledByRoot v n ps q c
+  unfolding settledByRoot
+  no-core true z f = absurd (true-T f)
+  no-core false z f = rw (core-is z)
+
   -- the tree's own count
   pub told-count : {r : Counted} → r ≡ toldOf (node (geometryAt v n ps) q (cellAt (geometryAt v n ps) c)) → not (eqb (r .count) 0) ≡ nonzero (count (geometryAt v n ps) q (cellAt (geometryAt v n ps) c))
   unfolding count
@@ -116,13 +141,25 @@ module _ {ps : List ℤ} {v : ValidParams} {n k : ℕ} {w : List ℕ} {q c : ℕ
         ap (λ (l : List Float). settledBy v (sumFrom (float 0) (floats (frame v fs q)) l)) (sym (ap (λ (b : Box). take (v .channels) (b .centre)) er ∙ root-centre (p .0) c low))
         ∙ sym et ∙ z
 
-    pub box-apart : told ≡ Disjoint → false ≡ nonzero (count (geometryAt v n ps) q (cellAt (geometryAt v n ps) c))
+    pub root-value : {b : Bool} → b ≡ nonzero (getD w (5 * n + c) 0) → not b ≡ false → told ≡ settledByRoot v n ps q c
+    unfolding settledByRoot
+    root-value {b} eb f = rw (core-is eb ∙ not-false b f, ← er) et
+
+    box-apart : told ≡ Disjoint → false ≡ nonzero (count (geometryAt v n ps) q (cellAt (geometryAt v n ps) c))
     box-apart z = sym (disjoint-count g L q (cellAt g c) (settled-disjoint (p .0) q (cellAt g c) (p .2) low own counts (telling z)))
 
-    pub box-inside : told ≡ FullyCovered → {b : Bool} → b ≡ nonzero (getD w (5 * n + c) 0) → not b ≡ false → true ≡ nonzero (count (geometryAt v n ps) q (cellAt (geometryAt v n ps) c))
+    box-inside : told ≡ FullyCovered → {b : Bool} → b ≡ nonzero (getD w (5 * n + c) 0) → not b ≡ false → true ≡ nonzero (count (geometryAt v n ps) q (cellAt (geometryAt v n ps) c))
     box-inside z {b} eb f =
         sym (covered-count g L q (cellAt g c) (settled-covered (p .0) q (cellAt g c) (p .2) low own counts (telling z))
         (true-T (sym (is-core-cell (p .1) e c (p .3)) ∙ sym eb ∙ not-false b f)))
+
+    pub root-tells : {b : Bool} → b ≡ nonzero (getD w (5 * n + c) 0) → not b ≡ false → Tells v n ps q c told
+    root-tells {b} eb f = go told refl
+      where
+        go : (t : IntersectionType) → told ≡ t → Tells v n ps q c t
+        go Disjoint z = box-apart z
+        go FullyCovered z = box-inside z eb f
+        go Intersecting z = refl
 
   -- ---- its frames
   module _ {from end : ℕ} (ef : from ≡ getD w (2 * n + c) 0) (ee : end ≡ endIn w n k c) where
@@ -151,6 +188,11 @@ module _ {ps : List ℤ} {v : ValidParams} {n k : ℕ} {w : List ℕ} {q c : ℕ
     module _ (own : Counts (frame v (framesIn n (v .channels) ps) q))
         (all : (x : ℕ) → In x (part w (3 * n + from) (end - from)) → Counts (frame v (framesIn n (v .channels) ps) x))
         {least : ℕ} (el : least ≡ leastUntil (v .t * v .t) (N v (framesIn n (v .channels) ps) q) beyond (coreAmong w n from end)) where
+      -- what the two tests say
+      pub frames-value : (a b : Bool) → ltb least (v .t * v .t) ≡ a → outOfReach (v .t) (v .s) least ≡ b → cond a FullyCovered (cond b Disjoint Intersecting) ≡ settledByFrames v n ps q c
+      unfolding settledByFrames settledByLeast
+      frames-value a b ea eb = rw (← among, ← el, ea, eb)
+
       pub hit : least < v .t * v .t → true ≡ nonzero (count (geometryAt v n ps) q (cellAt (geometryAt v n ps) c))
       hit l =
           let z = least-found (v .t * v .t) (N v fs q) beyond (coreAmong w n from end) (omega (arith, square-fits (p .0))) (omega (arith, el)) in

@@ -4,3 +4,4 @@ pub mod Nearest
 pub mod NearestLaws
 pub mod RootBox
 pub mod RootBoxLaws
+pub mod Settling

@@ -10,6 +10,7 @@ use hyperparams::ValidParams;
 use lists::Word;
 use tree_structure::Counted;
 ghost use mathlib.Core.Path.{_≡_};
+ghost use mathlib.Core.Bool.{false};
 ghost use mathlib.Core.List.{[], _∷_};
 ghost use Prim.Native.Nat.{ℕ, _+_, _-_, _*_, _<_, _≤_};
 ghost use lib.ListN.{length, getD};
@@ -23,10 +24,12 @@ ghost use Rattle.counting_tree.specs.Paths as Paths;
 ghost use Rattle.counting_tree.specs.Ready.{geometryAt, Ready};
 ghost use Rattle.cells_grid.specs.Cells.{node, count};
 ghost use Rattle.cells_grid.specs.Arrangement.{cellAt, Cored};
+ghost use Rattle.cells_grid.specs.Places.{endIn};
 ghost use Rattle.tree_structure.specs.Encode.{toldOf};
 ghost use Rattle.core_cells.specs.Forest.{coreAmong, CanGather, treeSize, treeWords, nodesTo, forestTo, treeWord, Grown};
 ghost use Rattle.core_cells.specs.Nearest.{CanLook, beyond, leastUntil, outOfReach};
-ghost use Rattle.core_cells.specs.RootBox.{rootBox};
+ghost use Rattle.core_cells.specs.RootBox.{rootBox, rootUnless};
+ghost use Rattle.core_cells.specs.Settling.{framesFirst, settledByFrames, settledByRoot, Tells};
 
 // The regions, of one word a frame: from 5n on where the tree of each cell begins, from 10n on the core frames of one cell,
 // from 11n and 12n on what building its tree needs; these three are 0 before and after. From 16n on the nodes, of four words.
@@ -40,6 +43,9 @@ const NODES: usize = 16;
 
 // A cell with at most so many core frames has no tree: its frames' own paths are taken.
 pub const PATHS: usize = 1024;
+
+// In a cell with at most so many frames these are asked before its root box, unless s is 0.
+const FEW: usize = 2;
 
 // More than any sum of squared differences.
 const BEYOND: u64 = 34359738368;
@@ -259,7 +265,7 @@ fn some_reaches(
 }
 
 // The root box of cell c: all its frames lie in it.
-pub fn root_box(points: &[i16], v: ValidParams, n: usize, k: usize, work: &[Word], c: usize) -> Box
+fn root_box(points: &[i16], v: ValidParams, n: usize, k: usize, work: &[Word], c: usize) -> Box
     requires { ⌜ Ready (now points) v n × Grown (geometryAt v n (now points)) k (now work) × (c < k) ⌝ }
     ensures { λ r. ⌜ r ≡ rootBox v n (now (points .entry)) c ⌝ }
 {
@@ -268,8 +274,125 @@ pub fn root_box(points: &[i16], v: ValidParams, n: usize, k: usize, work: &[Word
     counting_tree::boxes::box_of(first, side, v.channels)
 }
 
-// Whether frame q has a non-zero count in the tree of cell c. A core frame of the cell nearer than the tolerance gives one,
-// and none does where all are out of reach. What the whole numbers leave open the frames' own paths tell, or the tree where it is built.
+// Whether the frames of cell c are asked before its root box: where they are few and s is above 0. With s 0 the box settles nearly everything.
+pub fn frames_first(v: ValidParams, n: usize, k: usize, work: &[Word], c: usize) -> bool
+    requires { ⌜ (c < k) × (k ≤ n) × (3 * n ≤ length (now work)) × (getD (now work) (2 * n + c) 0 ≤ endIn (now work) n k c) ⌝ }
+    ensures { λ r. ⌜ r ≡ framesFirst v n k (now (work .entry)) c ⌝ }
+{
+    if v.s == 0 {
+        return false;
+    }
+    cells_grid::cell_end(work, n, k, c) - lists::word(work, STARTS * n + c) <= FEW
+}
+
+// The root box of cell c, to be worked out once for all frames that are asked of the cell. Where the cell's frames come first it is seldom needed:
+// there it is a box of zeros, which is not read.
+pub fn root_unless(
+    first: bool,
+    points: &[i16],
+    v: ValidParams,
+    n: usize,
+    k: usize,
+    work: &[Word],
+    c: usize,
+) -> Box
+    requires { ⌜ Ready (now points) v n × Grown (geometryAt v n (now points)) k (now work) × (c < k) ⌝ }
+    ensures { λ r. ⌜ r ≡ rootUnless first v n (now (points .entry)) c ⌝ }
+{
+    if first {
+        return Box {
+            centre: [0.0, 0.0, 0.0, 0.0],
+            side: 0.0,
+        };
+    }
+    root_box(points, v, n, k, work, c)
+}
+
+// Whether `told` says that a count is not 0.
+fn is_covered(told: IntersectionType) -> bool
+    ensures { λ r. ⌜ r ≡ Paths.onBox told false ⌝ }
+{
+    match told {
+        IntersectionType::Disjoint => false,
+        IntersectionType::FullyCovered => true,
+        IntersectionType::Intersecting => false,
+    }
+}
+
+// What the root box `root` of cell c tells of the count of frame q in the cell's tree: all core frames of the cell share that box.
+fn settled_by_root(
+    points: &[i16],
+    v: ValidParams,
+    n: usize,
+    k: usize,
+    work: &[Word],
+    q: usize,
+    c: usize,
+    root: Box,
+) -> IntersectionType
+    requires { ⌜ Ready (now points) v n × Grown (geometryAt v n (now points)) k (now work) × (q < n) × (c < k) × (root ≡ rootBox v n (now points) c) ⌝ }
+    ensures value { λ r. ⌜ r ≡ settledByRoot v n (now (points .entry)) q c ⌝ }
+    ensures tells { λ r. ⌜ Tells v n (now (points .entry)) q c r ⌝ }
+{
+    if !is_core_cell(work, n, c) {
+        return IntersectionType::Disjoint;
+    }
+    counting_tree::points::read_frame(points, v, n, q);
+    counting_tree::points::read_frame(points, v, n, lists::word(work, n + c));
+    counting_tree::points::settled(points, v, n, q, root)
+}
+
+// What the core frames of cell c tell of the count of frame q in its tree: one nearer than the tolerance gives a count,
+// and there is none where all are out of reach.
+fn settled_by_frames(
+    points: &[i16],
+    v: ValidParams,
+    n: usize,
+    k: usize,
+    work: &[Word],
+    q: usize,
+    c: usize,
+) -> IntersectionType
+    requires { ⌜ Ready (now points) v n × Grown (geometryAt v n (now points)) k (now work) × (q < n) × (c < k) ⌝ }
+    ensures value { λ r. ⌜ r ≡ settledByFrames v n (now (points .entry)) q c ⌝ }
+    ensures tells { λ r. ⌜ Tells v n (now (points .entry)) q c r ⌝ }
+{
+    let from = lists::word(work, STARTS * n + c);
+    let end = cells_grid::cell_end(work, n, k, c);
+    counting_tree::points::read_frame(points, v, n, q);
+    read_frames(points, v, n, work, from, end);
+    let least = least_square(points, v, n, work, q, from, end);
+    if least < v.t * v.t {
+        return IntersectionType::FullyCovered;
+    }
+    if out_of_reach(v.t, v.s, least) {
+        return IntersectionType::Disjoint;
+    }
+    IntersectionType::Intersecting
+}
+
+// Whether frame q has a non-zero count in the tree of cell c, by the frames' own paths, or by the tree where it is built.
+fn reaches_by_paths(
+    points: &[i16],
+    v: ValidParams,
+    n: usize,
+    k: usize,
+    work: &[Word],
+    q: usize,
+    c: usize,
+) -> bool
+    requires { ⌜ Ready (now points) v n × Grown (geometryAt v n (now points)) k (now work) × (q < n) × (c < k) ⌝ }
+    ensures { λ r. ⌜ r ≡ nonzero (count (geometryAt v n (now (points .entry))) q (cellAt (geometryAt v n (now (points .entry))) c)) ⌝ }
+{
+    if lists::word(work, TREES * n + c) <= 1 {
+        let from = lists::word(work, STARTS * n + c);
+        let end = cells_grid::cell_end(work, n, k, c);
+        return some_reaches(points, v, n, work, q, from, end);
+    }
+    tree_count(points, v, n, k, work, q, c).count != 0
+}
+
+// The same, by what its frames settle first.
 fn reaches_frames(
     points: &[i16],
     v: ValidParams,
@@ -282,26 +405,36 @@ fn reaches_frames(
     requires { ⌜ Ready (now points) v n × Grown (geometryAt v n (now points)) k (now work) × (q < n) × (c < k) ⌝ }
     ensures { λ r. ⌜ r ≡ nonzero (count (geometryAt v n (now (points .entry))) q (cellAt (geometryAt v n (now (points .entry))) c)) ⌝ }
 {
-    let from = lists::word(work, STARTS * n + c);
-    let end = cells_grid::cell_end(work, n, k, c);
-    counting_tree::points::read_frame(points, v, n, q);
-    read_frames(points, v, n, work, from, end);
-    let least = least_square(points, v, n, work, q, from, end);
-    if least < v.t * v.t {
-        return true;
+    let told = settled_by_frames(points, v, n, k, work, q, c);
+    if let IntersectionType::Intersecting = told {
+        return reaches_by_paths(points, v, n, k, work, q, c);
     }
-    if out_of_reach(v.t, v.s, least) {
-        return false;
-    }
-    if lists::word(work, TREES * n + c) <= 1 {
-        return some_reaches(points, v, n, work, q, from, end);
-    }
-    tree_count(points, v, n, k, work, q, c).count != 0
+    is_covered(told)
 }
 
-// Whether frame q has a non-zero count in the tree of cell c, whose root box is `root`: all core frames of the cell share that box,
-// so the frames are asked only where it settles nothing.
-pub fn reaches(
+// The same, by what its root box settles first.
+fn reaches_root(
+    points: &[i16],
+    v: ValidParams,
+    n: usize,
+    k: usize,
+    work: &[Word],
+    q: usize,
+    c: usize,
+) -> bool
+    requires { ⌜ Ready (now points) v n × Grown (geometryAt v n (now points)) k (now work) × (q < n) × (c < k) ⌝ }
+    ensures { λ r. ⌜ r ≡ nonzero (count (geometryAt v n (now (points .entry))) q (cellAt (geometryAt v n (now (points .entry))) c)) ⌝ }
+{
+    let root = root_box(points, v, n, k, work, c);
+    let told = settled_by_root(points, v, n, k, work, q, c, root);
+    if let IntersectionType::Intersecting = told {
+        return reaches_by_paths(points, v, n, k, work, q, c);
+    }
+    is_covered(told)
+}
+
+// The same, by its root box `root` and then its frames.
+fn root_then_frames(
     points: &[i16],
     v: ValidParams,
     n: usize,
@@ -314,14 +447,50 @@ pub fn reaches(
     requires { ⌜ Ready (now points) v n × Grown (geometryAt v n (now points)) k (now work) × (q < n) × (c < k) × (root ≡ rootBox v n (now points) c) ⌝ }
     ensures { λ r. ⌜ r ≡ nonzero (count (geometryAt v n (now (points .entry))) q (cellAt (geometryAt v n (now (points .entry))) c)) ⌝ }
 {
-    if !is_core_cell(work, n, c) {
-        return false;
+    let told = settled_by_root(points, v, n, k, work, q, c, root);
+    if let IntersectionType::Intersecting = told {
+        return reaches_frames(points, v, n, k, work, q, c);
     }
-    counting_tree::points::read_frame(points, v, n, q);
-    counting_tree::points::read_frame(points, v, n, lists::word(work, n + c));
-    match counting_tree::points::settled(points, v, n, q, root) {
-        IntersectionType::Disjoint => false,
-        IntersectionType::FullyCovered => true,
-        IntersectionType::Intersecting => reaches_frames(points, v, n, k, work, q, c),
+    is_covered(told)
+}
+
+// The same, by its frames and then its root box, which is worked out only where these settle nothing.
+fn frames_then_root(
+    points: &[i16],
+    v: ValidParams,
+    n: usize,
+    k: usize,
+    work: &[Word],
+    q: usize,
+    c: usize,
+) -> bool
+    requires { ⌜ Ready (now points) v n × Grown (geometryAt v n (now points)) k (now work) × (q < n) × (c < k) ⌝ }
+    ensures { λ r. ⌜ r ≡ nonzero (count (geometryAt v n (now (points .entry))) q (cellAt (geometryAt v n (now (points .entry))) c)) ⌝ }
+{
+    let told = settled_by_frames(points, v, n, k, work, q, c);
+    if let IntersectionType::Intersecting = told {
+        return reaches_root(points, v, n, k, work, q, c);
     }
+    is_covered(told)
+}
+
+// Whether frame q has a non-zero count in the tree of cell c: by its frames first, or by its root box, which is `root` then.
+pub fn reaches(
+    points: &[i16],
+    v: ValidParams,
+    n: usize,
+    k: usize,
+    work: &[Word],
+    q: usize,
+    c: usize,
+    first: bool,
+    root: Box,
+) -> bool
+    requires { ⌜ Ready (now points) v n × Grown (geometryAt v n (now points)) k (now work) × (q < n) × (c < k) × (root ≡ rootUnless first v n (now points) c) ⌝ }
+    ensures { λ r. ⌜ r ≡ nonzero (count (geometryAt v n (now (points .entry))) q (cellAt (geometryAt v n (now (points .entry))) c)) ⌝ }
+{
+    if first {
+        return frames_then_root(points, v, n, k, work, q, c);
+    }
+    root_then_frames(points, v, n, k, work, q, c, root)
 }

@@ -1,4 +1,5 @@
 -- `label` meets its contract, by what the words are after each of its calls.
+use native.Mathlib.Omega.{arith}
 use Rattle.clustering.proofs.Held.{tree-held}
 use Rattle.clustering.proofs.Whole.{search₀, can-number, clusters-counted, can-label, can-clear, all-cleared}
 use borrow.Author.Needs.{needs}
@@ -34,7 +35,7 @@ mul-clear-words-2 c = search needs
 clear-words-requires : tie.Need-clear-words-requires
 clear-words-requires c κs =
     let s = c .before .before .before .before .before .before .before .before .before .before .before .before .before .before .before .before .before .before .pre in
-    can-clear (s .0) (s .1) (s .2) (s .3) (c .before .before .before .before .before .before .before .before .before .before .before .before .before .before .before .hash-cells .ensures) (c .before .before .before .before .before .before .before .before .before .before .before .unite-listed-cells .ensures) (c .before .before .before .before .before .before .before .number-clusters .ensures .1) (c .before .before .before .label-frames .ensures)
+    omega (arith, can-clear (s .0) (s .1) (s .2) (s .3) (c .before .before .before .before .before .before .before .before .before .before .before .before .before .before .before .hash-cells .ensures) (c .before .before .before .before .before .before .before .before .before .before .before .unite-listed-cells .ensures) (c .before .before .before .before .before .before .before .number-clusters .ensures .1) (c .before .before .before .label-frames .ensures))
 
 same-length : tie.Need-same-length
 same-length c = search needs

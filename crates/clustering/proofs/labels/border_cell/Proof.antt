@@ -7,6 +7,7 @@ use Rattle.lists.specs.LoopLaws.{Lowest, lowest-start}
 use Rattle.counting_tree.specs.Ready.{geometryAt}
 use Rattle.cells_grid.specs.Listing.{listOf}
 use Rattle.clustering.proofs.Bordering.{counts, can-list, few-listed, room-listed, can-ask, not-lower, no-count, lower, lowest-border, listed-cleared}
+use Rattle.clustering.proofs.Held.{can-order}
 use Rattle.clustering.proofs.labels.border_cell.Statement.{statement}
 use Rattle.clustering.proofs.labels.border_cell.Tie as tie
 
@@ -45,41 +46,49 @@ word-requires-2 c κs =
     let e = c .before .before .before .before .before .list-cells .ensures in
     omega (arith, few-listed s o e, room-listed s o e)
 
-root-box-requires : tie.Need-root-box-requires Inv-loop μ-loop
-root-box-requires c κs =
+frames-first-requires : tie.Need-frames-first-requires Inv-loop μ-loop
+frames-first-requires c κs =
     let s = c .before .before .before .before .before .before .before .before .before .before .before .before .before .pre in
     let o = c .before .before .before .before .before .before .before .before .before .before .word .ensures in
     let e = c .before .before .before .before .before .before .before .before .list-cells .ensures in
     let z = can-ask s o e (c .before .before .before .before .loop-test .taken) (c .before .before .word2 .ensures) in
-    (z .0, z .1, z .3)
+    can-order (z .0) (z .1) (z .3)
 
-reaches-requires : tie.Need-reaches-requires Inv-loop μ-loop
-reaches-requires c κs =
+root-unless-requires : tie.Need-root-unless-requires Inv-loop μ-loop
+root-unless-requires c κs =
     let s = c .before .before .before .before .before .before .before .before .before .before .before .before .before .before .before .pre in
     let o = c .before .before .before .before .before .before .before .before .before .before .before .before .word .ensures in
     let e = c .before .before .before .before .before .before .before .before .before .before .list-cells .ensures in
     let z = can-ask s o e (c .before .before .before .before .before .before .loop-test .taken) (c .before .before .before .before .word2 .ensures) in
-    (z .0, z .1, z .2, z .3, c .before .root-box .ensures)
+    (z .0, z .1, z .3)
+
+reaches-requires : tie.Need-reaches-requires Inv-loop μ-loop
+reaches-requires c κs =
+    let s = c .before .before .before .before .before .before .before .before .before .before .before .before .before .before .before .before .before .pre in
+    let o = c .before .before .before .before .before .before .before .before .before .before .before .before .before .before .word .ensures in
+    let e = c .before .before .before .before .before .before .before .before .before .before .before .before .list-cells .ensures in
+    let z = can-ask s o e (c .before .before .before .before .before .before .before .before .loop-test .taken) (c .before .before .before .before .before .before .word2 .ensures) in
+    (z .0, z .1, z .2, z .3, c .before .root-unless .ensures)
 
 loop-less : tie.Need-loop-less Inv-loop μ-loop
 loop-less c = omega arith
 
 loop-again : tie.Need-loop-again Inv-loop μ-loop
 loop-again c =
-    let s = c .before .before .before .before .before .before .before .before .before .before .before .before .before .before .before .before .before .pre in
-    let o = c .before .before .before .before .before .before .before .before .before .before .before .before .before .before .word .ensures in
-    let e = c .before .before .before .before .before .before .before .before .before .before .before .before .list-cells .ensures in
-    lower s o e (c .before .before .before .before .before .before .before .before .loop-test .taken) (c .before .before .before .before .before .before .word2 .ensures) (c .before .before .before .before .before .before .before .before .before .loop .inv) (c .before .before .before .before .before .if1 .taken) (c .before .reaches .ensures) (c .if2 .taken)
+    let s = c .before .before .before .before .before .before .before .before .before .before .before .before .before .before .before .before .before .before .before .pre in
+    let o = c .before .before .before .before .before .before .before .before .before .before .before .before .before .before .before .before .word .ensures in
+    let e = c .before .before .before .before .before .before .before .before .before .before .before .before .before .before .list-cells .ensures in
+    lower s o e (c .before .before .before .before .before .before .before .before .before .before .loop-test .taken) (c .before .before .before .before .before .before .before .before .word2 .ensures) (c .before .before .before .before .before .before .before .before .before .before .before .loop .inv) (c .before .before .before .before .before .before .before .if1 .taken) (c .before .reaches .ensures) (c .if2 .taken)
 
 loop-less-2 : tie.Need-loop-less-2 Inv-loop μ-loop
 loop-less-2 c = omega arith
 
 loop-again-2 : tie.Need-loop-again-2 Inv-loop μ-loop
 loop-again-2 c =
-    let s = c .before .before .before .before .before .before .before .before .before .before .before .before .before .before .before .before .before .pre in
-    let o = c .before .before .before .before .before .before .before .before .before .before .before .before .before .before .word .ensures in
-    let e = c .before .before .before .before .before .before .before .before .before .before .before .before .list-cells .ensures in
-    no-count s o e (c .before .before .before .before .before .before .before .before .loop-test .taken) (c .before .before .before .before .before .before .word2 .ensures) (c .before .before .before .before .before .before .before .before .before .loop .inv) (c .before .reaches .ensures) (c .if2 .left)
+    let s = c .before .before .before .before .before .before .before .before .before .before .before .before .before .before .before .before .before .before .before .pre in
+    let o = c .before .before .before .before .before .before .before .before .before .before .before .before .before .before .before .before .word .ensures in
+    let e = c .before .before .before .before .before .before .before .before .before .before .before .before .before .before .list-cells .ensures in
+    no-count s o e (c .before .before .before .before .before .before .before .before .before .before .loop-test .taken) (c .before .before .before .before .before .before .before .before .word2 .ensures) (c .before .before .before .before .before .before .before .before .before .before .before .loop .inv) (c .before .reaches .ensures) (c .if2 .left)
 
 loop-less-3 : tie.Need-loop-less-3 Inv-loop μ-loop
 loop-less-3 c = omega arith
@@ -129,7 +138,8 @@ border-cell-spec =
     mul-word
     add-word
     word-requires-2
-    root-box-requires
+    frames-first-requires
+    root-unless-requires
     reaches-requires
     loop-less
     loop-again

@@ -1,37 +1,41 @@
 -- `touches_cell` meets its contract, by the core frames of c that are still to be asked for.
 use Prim.Native.Nat.{_-_}
 use native.Mathlib.Omega.{arith}
+use borrow.Author.Needs.{needs}
 use Rattle.counting_tree.specs.Ready.{geometryAt}
-use Rattle.clustering.proofs.Held.{few-cells, room}
+use Rattle.clustering.proofs.Held.{few-cells, room, can-order}
 use Rattle.clustering.proofs.Touching.{Touching, touch-start, frame-low, touch-hit, touch-miss, touch-skip, touch-end}
 use Rattle.clustering.proofs.uniting.touches_cell.Statement.{statement}
 use Rattle.clustering.proofs.uniting.touches_cell.Tie as tie
 
 abbrev Inv-loop : tie.InvT-loop
-Inv-loop points v n k work c d root end p₀ p = Touching (geometryAt v n points) work n end c d p
+Inv-loop points v n k work c d first root end p₀ p = Touching (geometryAt v n points) work n end c d p
 
 abbrev μ-loop : tie.MeasureT-loop
-μ-loop points v n k work c d root end p₀ p = end - p
+μ-loop points v n k work c d first root end p₀ p = end - p
 
-root-box-requires : tie.Need-root-box-requires Inv-loop μ-loop
-root-box-requires c κs = (c .before .pre .0, c .before .pre .1, c .before .pre .3)
+frames-first-requires : tie.Need-frames-first-requires Inv-loop μ-loop
+frames-first-requires c κs = can-order (c .before .pre .0) (c .before .pre .1) (c .before .pre .3)
+
+root-unless-requires : tie.Need-root-unless-requires Inv-loop μ-loop
+root-unless-requires c κs = search needs
 
 cell-end-requires : tie.Need-cell-end-requires Inv-loop μ-loop
 cell-end-requires c κs =
-    let s = c .before .before .pre in
+    let s = c .before .before .before .pre in
     (s .2, few-cells (s .0) (s .1), omega (arith, room (s .0) (s .1)))
 
 mul-word : tie.Need-mul-word Inv-loop μ-loop
 mul-word c = omega arith
 
 add-word : tie.Need-add-word Inv-loop μ-loop
-add-word c = omega (arith, few-cells (c .before .before .before .pre .0) (c .before .before .before .pre .1), room (c .before .before .before .pre .0) (c .before .before .before .pre .1))
+add-word c = omega (arith, few-cells (c .before .before .before .before .pre .0) (c .before .before .before .before .pre .1), room (c .before .before .before .before .pre .0) (c .before .before .before .before .pre .1))
 
 word-requires : tie.Need-word-requires Inv-loop μ-loop
-word-requires c κs = omega (arith, few-cells (c .before .before .before .pre .0) (c .before .before .before .pre .1), room (c .before .before .before .pre .0) (c .before .before .before .pre .1))
+word-requires c κs = omega (arith, few-cells (c .before .before .before .before .pre .0) (c .before .before .before .before .pre .1), room (c .before .before .before .before .pre .0) (c .before .before .before .before .pre .1))
 
 loop-holds : tie.Need-loop-holds Inv-loop μ-loop
-loop-holds c = touch-start (c .before .before .before .before .pre .0) (c .before .before .before .before .pre .1) _ _ (c .before .before .before .before .pre .2) _ _
+loop-holds c = touch-start (c .before .before .before .before .before .pre .0) (c .before .before .before .before .before .pre .1) _ _ (c .before .before .before .before .before .pre .2) _ _
     (c .before .cell-end .ensures) (c .word .ensures)
 
 add-next : tie.Need-add-next Inv-loop μ-loop
@@ -51,8 +55,8 @@ is-core-requires c κs = (frame-low (c .before .before .loop .inv) (c .before .l
 
 reaches-requires : tie.Need-reaches-requires Inv-loop μ-loop
 reaches-requires c κs =
-    let s = c .before .before .before .before .before .before .before .before .before .pre in
-    (s .0, s .1, frame-low (c .before .before .before .before .loop .inv) (c .before .before .before .loop-test .taken) (c .before .before .word2 .ensures), s .3, c .before .before .before .before .before .before .before .root-box .ensures)
+    let s = c .before .before .before .before .before .before .before .before .before .before .pre in
+    (s .0, s .1, frame-low (c .before .before .before .before .loop .inv) (c .before .before .before .loop-test .taken) (c .before .before .word2 .ensures), s .3, c .before .before .before .before .before .before .before .root-unless .ensures)
 
 returns : tie.Need-returns Inv-loop μ-loop
 returns c =
@@ -82,7 +86,8 @@ touches-cell-spec =
     (tie.spec
     Inv-loop
     μ-loop
-    root-box-requires
+    frames-first-requires
+    root-unless-requires
     cell-end-requires
     mul-word
     add-word
