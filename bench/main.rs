@@ -89,37 +89,102 @@ impl Times {
     }
 }
 
-fn measure(c: &Set, quick: bool) -> Times {
-    let slack = 0.5f64.powi(c.s as i32);
+/// One run of the original, in seconds.
+fn time_original(c: &Set, search: Search) -> impl FnMut() -> f64 + '_ {
     let floats = rows(&c.points, c.channels);
-    let original = |search| {
-        let params = settings(c.min_points, c.t, slack, search).unwrap();
-        least(quick, || {
-            let start = now();
-            let labels = plain(&floats, &params);
-            let took = now() - start;
-            assert_eq!(std::hint::black_box(labels).len(), c.frames);
-            took
-        })
-    };
-    let (scan, tree) = (original(Search::LinearSearch), original(Search::KdTree));
-    let needed = work_words(c.frames, c.s);
-    let (mut labels, mut kinds, mut work) = (vec![0u16; c.frames], vec![0u8; c.frames], vec![0u16; needed]);
-    let ours = least(quick, || {
-        labels.fill(0xabab);
-        kinds.fill(0xab);
-        work.fill(0xabab);
+    let params = settings(c.min_points, c.t, 0.5f64.powi(c.s as i32), search).unwrap();
+    move || {
         let start = now();
-        let answer = library::transform(&c.points, c.channels, c.min_points, c.t, slack, &mut labels, &mut kinds, &mut work);
+        let labels = plain(&floats, &params);
+        let took = now() - start;
+        assert_eq!(std::hint::black_box(labels).len(), c.frames);
+        took
+    }
+}
+
+/// What is lent to this library.
+struct Lent {
+    labels: Vec<u16>,
+    kinds: Vec<u8>,
+    work: Vec<u16>,
+}
+
+impl Lent {
+    fn new(c: &Set) -> Lent {
+        Lent {
+            labels: vec![0; c.frames],
+            kinds: vec![0; c.frames],
+            work: vec![0; work_words(c.frames, c.s)],
+        }
+    }
+
+    /// One run of this library, in seconds.
+    fn time(&mut self, c: &Set) -> f64 {
+        self.labels.fill(0xabab);
+        self.kinds.fill(0xab);
+        self.work.fill(0xabab);
+        let slack = 0.5f64.powi(c.s as i32);
+        let start = now();
+        let answer = library::transform(
+            &c.points,
+            c.channels,
+            c.min_points,
+            c.t,
+            slack,
+            &mut self.labels,
+            &mut self.kinds,
+            &mut self.work,
+        );
         let took = now() - start;
         assert_eq!(std::hint::black_box(answer).refusal, 0);
         took
-    });
+    }
+}
+
+fn measure(c: &Set, quick: bool) -> Times {
+    let scan = least(quick, time_original(c, Search::LinearSearch));
+    let tree = least(quick, time_original(c, Search::KdTree));
+    let mut lent = Lent::new(c);
+    let ours = least(quick, || lent.time(c));
     // the two answers are the same
-    let answer = probe(&floats, &settings(c.min_points, c.t, slack, Search::KdTree).unwrap(), None);
+    let slack = 0.5f64.powi(c.s as i32);
+    let answer = probe(
+        &rows(&c.points, c.channels),
+        &settings(c.min_points, c.t, slack, Search::KdTree).unwrap(),
+        None,
+    );
     let theirs: Vec<u16> = answer.labels.iter().map(|l| l.map_or(65535, |l| l as u16)).collect();
-    assert!(theirs == labels && answer.kinds == kinds, "{}: the answers differ", c.name);
+    assert!(theirs == lent.labels && answer.kinds == lent.kinds, "{}: the answers differ", c.name);
     Times { scan, tree, ours }
+}
+
+/// The middle of some times, in milliseconds.
+fn middle(mut times: Vec<f64>) -> f64 {
+    times.sort_by(|a, b| a.total_cmp(b));
+    times[times.len() / 2] * 1e3
+}
+
+/// The middle time of runs on different sets of one kind: what a processor learns of a set while it runs it again and again does not count.
+fn fresh(sets: &[Set]) -> Times {
+    let mut lent = Lent::new(&sets[0]);
+    Times {
+        scan: middle(sets.iter().map(|c| time_original(c, Search::LinearSearch)()).collect()),
+        tree: middle(sets.iter().map(|c| time_original(c, Search::KdTree)()).collect()),
+        ours: middle(sets.iter().map(|c| lent.time(c)).collect()),
+    }
+}
+
+/// The rows of a table of growth: `times` measures so many frames.
+fn growth(name: &str, times: impl Fn(usize) -> Times) {
+    let times: Vec<Times> = [512, 1024, 2048, 4096].iter().map(|n| times(*n)).collect();
+    let each: Vec<String> = times.iter().map(|x| format!("{:.2} / {:.2}", x.original(), x.ours)).collect();
+    println!(
+        "| {} | {} | {:.1} | {:.1} |",
+        name,
+        each.join(" | "),
+        times[3].original() / times[0].original(),
+        times[3].ours / times[0].ours
+    );
 }
 
 fn main() {
@@ -179,36 +244,27 @@ fn main() {
         }
         println!();
     }
-    println!(
-        "Growth, 4 channels, s 3: original (faster search) / this library, and this library's time at 4,096 frames over that at 512\n"
-    );
-    println!("| set | 512 | 1,024 | 2,048 | 4,096 | original grows | this library grows |\n|---|---|---|---|---|---|---|");
-    for (name, kind, t, min_points) in shapes {
-        let times: Vec<Times> = [512, 1024, 2048, 4096]
-            .iter()
-            .map(|n| {
-                measure(
-                    &Set {
-                        name,
-                        channels: 4,
-                        frames: *n,
-                        t,
-                        min_points,
-                        s: 3,
-                        points: make(&mut Random::new(seed), kind, 4, *n),
-                    },
-                    quick,
-                )
-            })
-            .collect();
-        let each: Vec<String> = times.iter().map(|x| format!("{:.2} / {:.2}", x.original(), x.ours)).collect();
-        println!(
-            "| {} | {} | {:.1} | {:.1} |",
-            name,
-            each.join(" | "),
-            times[3].original() / times[0].original(),
-            times[3].ours / times[0].ours
-        );
+    let set = |(name, kind, t, min_points): (&'static str, &str, f64, usize), frames: usize, seed: u64| Set {
+        name,
+        channels: 4,
+        frames,
+        t,
+        min_points,
+        s: 3,
+        points: make(&mut Random::new(seed), kind, 4, frames),
+    };
+    let head = "| set | 512 | 1,024 | 2,048 | 4,096 | original grows | this library grows |\n|---|---|---|---|---|---|---|";
+    println!("Growth, 4 channels, s 3: original (faster search) / this library, and the time at 4,096 frames over that at 512\n\n{}", head);
+    for shape in shapes {
+        growth(shape.0, |n| measure(&set(shape, n, seed), quick));
+    }
+    let runs = if quick { 5 } else { 41 };
+    println!("\nThe same with another set of the kind at each run, the middle of {} runs\n\n{}", runs, head);
+    for shape in shapes {
+        growth(shape.0, |n| {
+            let sets: Vec<Set> = (0..runs).map(|k| set(shape, n, seed + k)).collect();
+            fresh(&sets)
+        });
     }
     println!(
         "\nbench: seed {}, {} sets of 4,096 frames, times faster: least {:.2}, geometric mean {:.2}",
