@@ -1,12 +1,12 @@
 -- The core cells that a cell lists, in the order in which a search by blocks finds them, and what the words hold for that search. Definitions only.
 use mathlib.Core.Bool.{Bool, not, _&&_}
 use mathlib.Core.List.{List}
-use Prim.Native.Nat.{ℕ, _+_, _*_}
+use Prim.Native.Nat.{ℕ, _+_, _-_, _*_}
 use lib.IntN.{ℤ}
 use lib.Dec.{eqb}
 use lib.ListN.{length, getD}
 use Rattle.lists.specs.Lists.{keep}
-use Rattle.lists.specs.Sorting.{Sorted}
+use Rattle.lists.specs.Sorting.{beginIn, Sorted}
 use Rattle.hyperparams.specs.declared.ValidParams.{ValidParams}
 use Rattle.counting_tree.specs.Geometry.{Geometry}
 use Rattle.counting_tree.specs.Ready.{geometryAt}
@@ -25,6 +25,10 @@ coreAt g c = coreCell g (cellAt g c)
 -- of the cells ds those whose word from `marks` on is not `mark`
 unfoldable pub unmarked : List ℕ → (marks mark : ℕ) → List ℕ → List ℕ
 unmarked w marks mark ds = keep (λ d. not (eqb (getD w (marks + d) 0) mark)) ds
+
+-- how many core cells stand sorted: all of the sorted cells but those of the last bucket
+abbrev pub sortedCount : List ℕ → (n k : ℕ) → ℕ
+sortedCount w n k = beginIn w (10 * n) (4 * k - 1)
 
 module _ (v : ValidParams) (n : ℕ) (ps : List ℤ) where
   abbrev pub geo : Geometry

@@ -12,13 +12,14 @@ use lib.ListN.{length, getD, replicate, length-replicate}
 use borrow.Author.Tests.{eq-eqb, ne-eqb}
 use Rattle.lists.specs.Lists.{numbers, keep, In, Below}
 use Rattle.lists.specs.Words.{over, Clear}
-use Rattle.lists.specs.Sorting.{numbered}
-use Rattle.lists.specs.ListLaws.{true-T, and-left, and-right, and-both, in-keep, keep-in, keep-same, in-append, in-numbers, numbers-in}
+use Rattle.lists.specs.Sorting.{numbered, placesOf}
+use Rattle.lists.specs.ListLaws.{true-T, and-left, and-right, and-both, in-keep, keep-in, keep-same, in-append, at-in, in-numbers, numbers-in}
 use Rattle.lists.specs.CountLaws.{keep-append, keep-le, keep-all}
 use Rattle.lists.specs.OrderLaws.{kept-le}
 use Rattle.lists.specs.PermLaws.{perm-same, perm-length}
 use Rattle.lists.specs.WordLaws.{over-again}
-use Rattle.lists.specs.PartLaws.{get-under, clear-over, clear-within}
+use Rattle.lists.specs.PartLaws.{get-under, part-at, clear-over, clear-within}
+use Rattle.lists.specs.SortLaws.{start-le, start-of-all, places-of-length, places-of-below, begin-at}
 use Rattle.hyperparams.specs.declared.ValidParams.{ValidParams}
 use Rattle.counting_tree.specs.Frames.{squared}
 use Rattle.counting_tree.specs.Geometry.{Geometry, geometryOf, near}
@@ -29,7 +30,7 @@ use Rattle.blocks.specs.SortedLaws.{sorted-kept}
 use Rattle.cells_grid.specs.Cells.{cells, listed, coreCell}
 use Rattle.cells_grid.specs.Arrangement.{cellAt}
 use Rattle.cells_grid.specs.ArrangementLaws.{cells-le, cell-at-below, listed-at}
-use Rattle.cells_grid.specs.Listing.{reachOf, coreAt, unmarked, cellKey, nearAt, nearIn, listIn, listOf, Hashed}
+use Rattle.cells_grid.specs.Listing.{reachOf, coreAt, unmarked, sortedCount, cellKey, nearAt, nearIn, listIn, listOf, Hashed}
 
 -- words laid over words that are 0, and made 0 again
 laid-cleared : (w : List ℕ) (a : ℕ) (ws : List ℕ) (m : ℕ) → m ≡ length ws → a + m ≤ length w → Clear w a m → over (over w a ws) a (replicate m 0) ≡ w
@@ -161,3 +162,15 @@ module _ {ps : List ℤ} {v : ValidParams} {n : ℕ} (r : Ready ps v n) where
   -- words laid below or above the sorted cells keep them
   pub hashed-over : {w : List ℕ} (b : ℕ) (ws : List ℕ) → b ≤ length w → (b + length ws ≤ 10 * n) ⊎ (15 * n ≤ b) → Hashed v n ps w → Hashed v n ps (over w b ws)
   hashed-over b ws h l H = sorted-kept b ws few h l H
+
+  -- ---- the cells as they stand sorted
+  module _ {w : List ℕ} (H : Hashed v n ps w) where
+    pub sorted-few : sortedCount w n (length (cells (geometryAt v n ps))) ≤ length (cells (geometryAt v n ps))
+    sorted-few = omega (arith, begin-at H (4 * k - 1) (omega arith), start-le (cellKey v n ps) k (4 * k - 1))
+
+    pub sorted-cell : (p : ℕ) → p < length (cells (geometryAt v n ps)) → getD w (14 * n + p) 0 < length (cells (geometryAt v n ps))
+    sorted-cell p h =
+        let P = placesOf (cellKey v n ps) k (4 * k) in
+        let l : length P ≡ k = places-of-length (cellKey v n ps) k (4 * k) ∙ start-of-all (cellKey v n ps) k (4 * k) cell-key-below in
+        let e : getD w (14 * n + p) 0 ≡ getD P p 0 = sym (part-at w (14 * n) k p h) ∙ ap (λ (z : List ℕ). getD z p 0) (H .numbers) in
+        omega (arith, places-of-below (cellKey v n ps) k (4 * k) (getD P p 0) (at-in 0 P p (omega arith)))

@@ -16,7 +16,7 @@ ghost use Rattle.blocks.specs.Blocks as Blocks;
 ghost use Rattle.blocks.specs.Blocks.{edgesOf, frameAt, rowHash, rowAround, sortedBy};
 ghost use Rattle.cells_grid.specs.Cells.{cells, coreCell};
 ghost use Rattle.cells_grid.specs.Arrangement.{cellAt, Arranged};
-ghost use Rattle.cells_grid.specs.Listing.{reachOf, cellKey, nearIn, unmarked, listIn, listOf, Hashed};
+ghost use Rattle.cells_grid.specs.Listing.{reachOf, sortedCount, cellKey, nearIn, unmarked, listIn, listOf, Hashed};
 
 // From 5n on: a word on the tree of each cell, 0 where it is no core cell.
 pub const TREES: usize = 5;
@@ -70,6 +70,17 @@ pub fn hash_cells(points: &[i16], v: ValidParams, n: usize, k: usize, work: &mut
     }
     lists::sorting::sort(work, KEYS * n, k, ENDS * n, 4 * k, blocks::PLACES * n);
     lists::clear_words(work, KEYS * n, k);
+}
+
+// How many core cells stand sorted: the others come after them.
+pub fn sorted_count(work: &[Word], n: usize, k: usize) -> usize
+    requires { ⌜ (k ≤ n) × (16 * n ≤ length (now work)) ⌝ }
+    ensures { λ r. ⌜ r ≡ sortedCount (now (work .entry)) n k ⌝ }
+{
+    if k == 0 {
+        return 0;
+    }
+    lists::sorting::begins(work, ENDS * n, 4 * k - 1)
 }
 
 // Whether cell d is not marked, and its first frame lies in row r of those that begin at `first`, and near frame i.

@@ -38,7 +38,7 @@ use Rattle.clustering.proofs.Held.{frames, few-cells, cell-count, is-ce
 use Rattle.clustering.proofs.Lent.{lent, lent-length, back}
 
 -- what pairs leave of the leaders p
-abbrev left : Geometry → List (ℕ × ℕ) → List ℕ → List ℕ
+abbrev pub left : Geometry → List (ℕ × ℕ) → List ℕ → List ℕ
 left g = meetAll byOwnLeaders (touchAt g)
 
 -- ---- w₀ are the words at first, w those now: only the leaders' have changed
@@ -72,10 +72,10 @@ module _ {g : Geometry} {n k : ℕ} {w₀ w : List ℕ} (i : Leading g n k w₀ 
 
   -- leaders of the same cells are written
   module _ {l : ℕ → ℕ} {q : List ℕ} (s : Stands k l q) {v : List ℕ} (e : v ≡ over w (6 * n) q) where
-    leaders-now : part v (6 * n) k ≡ q
+    pub leaders-now : part v (6 * n) k ≡ q
     leaders-now = ap (λ (z : List ℕ). part z (6 * n) k) e ∙ part-same w (6 * n) k q (omega (arith, i .room, i .size)) (s .size)
 
-    leading-on : Leading g n k w₀ v
+    pub leading-on : Leading g n k w₀ v
     leading-on = record {
       frames = i .frames;
       few = i .few;
@@ -90,7 +90,7 @@ module _ {g : Geometry} {n k : ℕ} {w₀ w : List ℕ} (i : Leading g n k w₀ 
     }
 
   -- what pairs of cells below k leave are such
-  pairs-stand : (ps : List (ℕ × ℕ)) → Within k ps → Stands k (meetAll byLowest (touchAt g) ps (root (part w (6 * n) k))) (left g ps (part w (6 * n) k))
+  pub pairs-stand : (ps : List (ℕ × ℕ)) → Within k ps → Stands k (meetAll byLowest (touchAt g) ps (root (part w (6 * n) k))) (left g ps (part w (6 * n) k))
   pairs-stand ps within = all-stand (touchAt g) k ps within leaders-stand
 
 -- ---- cell c with the m cells from 15n on, of which the first j are met

@@ -4,6 +4,7 @@ pub mod Lent
 pub mod Trying
 pub mod Meeting
 pub mod ByLists
+pub mod Closing
 pub mod Pairs
 pub mod Flat
 pub mod Phases

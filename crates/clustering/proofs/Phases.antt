@@ -1,37 +1,40 @@
--- Each cell by itself, then all pairs, by trials or by lists, then each cell its lowest: the leaders' words after each.
+-- Each cell by itself, then all pairs, by trials or, after the close ones, by lists, then each cell its lowest: the leaders' words after each.
 use mathlib.Core.Path.{_≡_, sym, ap, ap₂, _∙_, subst}
 use mathlib.Core.Logic.{inl}
 use mathlib.Core.List.{List}
-use Prim.Native.Nat.{ℕ, _+_, _-_, _*_, _≤_}
+use Prim.Native.Nat.{ℕ, _+_, _-_, _*_, _<_, _≤_}
 use native.Mathlib.Nat.{mul-le-mul}
 use native.Mathlib.Omega.{arith}
 use lib.IntN.{ℤ}
-use lib.ListN.{length}
+use lib.ListN.{length, getD}
 use borrow.Rule.Slice.PartMut.{putMid}
-use Rattle.lists.specs.Lists.{numbers}
+use Rattle.lists.specs.Lists.{numbers, In}
 use Rattle.lists.specs.Words.{over, part, column, Clear}
 use Rattle.lists.specs.ListLaws.{map-same, in-numbers, length-numbers}
 use Rattle.lists.specs.WordLaws.{over-again, over-length}
-use Rattle.lists.specs.PartLaws.{part-same, clear-after}
+use Rattle.lists.specs.PartLaws.{part-length, part-same, part-at, clear-after}
 use Rattle.hyperparams.specs.declared.ValidParams.{ValidParams}
 use Rattle.counting_tree.specs.Geometry.{Geometry}
 use Rattle.counting_tree.specs.Ready.{geometryAt, Ready}
 use Rattle.cells_grid.specs.Cells.{cells}
-use Rattle.cells_grid.specs.Listing.{listOf, Hashed}
-use Rattle.cells_grid.specs.ListingLaws.{hashed-over}
+use Rattle.cells_grid.specs.Listing.{sortedCount, listOf, Hashed}
+use Rattle.cells_grid.specs.ListingLaws.{hashed-over, sorted-cell}
 use Rattle.core_cells.specs.Forest.{Grown}
 use Rattle.core_cells.specs.ForestLaws.{grown-over}
 use Rattle.partitions.specs.Leaders.{Falling, root}
 use Rattle.partitions.specs.LeaderLaws.{Stands, alone-stands}
-use Rattle.partitions.specs.Trials.{Outcome, run, byLeaders}
+use Rattle.partitions.specs.Trials.{Outcome, run, byLowest, byLeaders}
 use Rattle.partitions.specs.TrialLaws.{Within, Alike, alike}
 use Rattle.clustering.specs.declared.uniting.Progress.{Progress}
 use Rattle.clustering.specs.Uniting.{pairsOf, touchAt, progressBy, progressOf, uniting, lowestAt}
 use Rattle.clustering.specs.UnitingLaws.{in-pairs}
-use Rattle.clustering.specs.UniteAll.{meetLists}
-use Rattle.clustering.specs.UniteAllLaws.{lists-stand, list-listed}
+use Rattle.clustering.specs.UniteAll.{meetAll, byOwnLeaders, meetLists}
+use Rattle.clustering.specs.UniteAllLaws.{all-stand, lists-stand, list-listed}
+use Rattle.clustering.specs.Close.{sortedCells, closePairs}
+use Rattle.clustering.specs.CloseLaws.{close-in}
 use Rattle.clustering.proofs.Held.{frames, few-cells, cell-count}
 use Rattle.clustering.proofs.Lent.{lent, lent-length, back}
+use Rattle.clustering.proofs.Closing.{sorted-low}
 
 module _ {ps : List ℤ} {v : ValidParams} {n : ℕ} (r : Ready ps v n) {k : ℕ} {w : List ℕ} (gr : Grown (geometryAt v n ps) k w) (l : 7 * n ≤ length w) where
   abbrev g : Geometry
@@ -43,6 +46,33 @@ module _ {ps : List ℤ} {v : ValidParams} {n : ℕ} (r : Ready ps v n) {k : ℕ
   pub few-leaders : length (part w (6 * n) (6 * n + k - 6 * n)) ≤ 65536
   few-leaders = omega (arith, lent-length w n k few l, few, r .few)
 
+  -- ---- at the end, from the leaders q of u: leaders s, which stand for sets with the lowest cells `low`
+  module _ {u : List ℕ} (q : List ℕ) (laid : u ≡ over w (6 * n) q) (size : length q ≡ k) {low : ℕ → ℕ} {s : List ℕ} (st : Stands k low s) {w₂ : List ℕ} (e₂ : w₂ ≡ over u (6 * n) s) where
+    second : w₂ ≡ over w (6 * n) s
+    second = e₂ ∙ ap (λ (z : List ℕ). over z (6 * n) s) laid ∙ over-again w (6 * n) q s (omega arith) (st .size ∙ sym size)
+
+    pub room-second : 7 * n ≤ length w₂
+    room-second = omega (arith, ap length second, over-length w (6 * n) s (omega (arith, st .size, few)))
+
+    leaders-second : part w₂ (6 * n) (6 * n + k - 6 * n) ≡ s
+    leaders-second = lent w₂ n k few room-second ∙ ap (λ (z : List ℕ). part z (6 * n) k) second ∙ part-same w (6 * n) k s (omega arith) (st .size)
+
+    pub falling-second : Falling (part w₂ (6 * n) (6 * n + k - 6 * n))
+    falling-second = subst Falling (sym leaders-second) (st .falling)
+
+    -- ---- each cell its lowest
+    pub lowest-words : {f : List ℕ} → f ≡ column (root (part w₂ (6 * n) (6 * n + k - 6 * n))) (length (part w₂ (6 * n) (6 * n + k - 6 * n)))
+        → putMid (6 * n) (6 * n + k - 6 * n) w₂ f ≡ over w (6 * n) (column low k)
+    lowest-words {f} e =
+        let i : f ≡ column low k =
+        e
+        ∙ ap₂ (λ (p : List ℕ) (m : ℕ). column (root p) m) leaders-second (ap length leaders-second ∙ st .size)
+        ∙ map-same (root s) low (numbers k) (λ c j. st .roots c (in-numbers k c j)) in
+        let j : length f ≡ k = ap length i ∙ length-numbers low k in
+        back w₂ n k few room-second f j
+        ∙ ap₂ (λ (y z : List ℕ). over y (6 * n) z) second i
+        ∙ over-again w (6 * n) s (column low k) (omega arith) (length-numbers low k ∙ sym (st .size))
+
   -- ---- each cell by itself
   module _ {q : List ℕ} (eq : q ≡ column (λ c. c) (length (part w (6 * n) (6 * n + k - 6 * n)))) where
     abbrev w₁ : List ℕ
@@ -51,10 +81,10 @@ module _ {ps : List ℤ} {v : ValidParams} {n : ℕ} (r : Ready ps v n) {k : ℕ
     alone : q ≡ column (λ c. c) k
     alone = eq ∙ ap (column (λ c. c)) (lent-length w n k few l)
 
-    size : length q ≡ k
+    pub size : length q ≡ k
     size = ap length alone ∙ length-numbers (λ c. c) k
 
-    first : w₁ ≡ over w (6 * n) q
+    pub first : w₁ ≡ over w (6 * n) q
     first = back w n k few l q size
 
     same-first : length w₁ ≡ length w
@@ -91,49 +121,79 @@ module _ {ps : List ℤ} {v : ValidParams} {n : ℕ} (r : Ready ps v n) {k : ℕ
       unfolding lowestAt
       tried-stand = as-lowest .sets
 
-    -- ---- all pairs, by lists
+    -- ---- the close pairs, and then all pairs by lists
     module _ (H : Hashed v n ps w) (wide : 16 * n ≤ length w) (z : Clear w (15 * n) n) where
-      pub can-unite-lists : (Ready ps v n × Grown g k w₁ × Hashed v n ps w₁) × ((16 * n ≤ length w₁) × Clear w₁ (15 * n) n × Falling (part w₁ (6 * n) k))
-      can-unite-lists = (
-        (r, grown-first, subst (Hashed v n ps) (sym first) (hashed-over r (6 * n) q (omega arith) (inl (omega (arith, size, few))) H)),
-        (
-          omega (arith, same-first),
-          subst (λ (x : List ℕ). Clear x (15 * n) n) (sym first) (clear-after w (15 * n) n (6 * n) q (omega arith) (omega (arith, size, few)) z),
-          falling-first,
-        ),
-      )
+      hashed-first : Hashed v n ps w₁
+      hashed-first = subst (Hashed v n ps) (sym first) (hashed-over r (6 * n) q (omega arith) (inl (omega (arith, size, few))) H)
 
-    pub met-stand : Stands k (lowestAt g (n * n)) (meetLists g (touchAt g) (listOf v n ps) (numbers k) (part w₁ (6 * n) k))
-    met-stand =
-        let e = cell-count r gr in
-        let l : length (cells g) ≤ n = omega (arith, few) in
-        subst (λ (p : List ℕ). Stands k (lowestAt g (n * n)) (meetLists g (touchAt g) (listOf v n ps) (numbers k) p)) (sym leaders-first)
-        (subst (λ (m : ℕ). Stands m (lowestAt g (n * n)) (meetLists g (touchAt g) (listOf v n ps) (numbers m) (column (λ c. c) m))) (sym e)
-        (lists-stand g (listOf v n ps) (list-listed r) (n * n) (mul-le-mul l l)))
+      pub can-unite-close : (Ready ps v n × Grown g k w₁ × Hashed v n ps w₁) × ((16 * n ≤ length w₁) × Falling (part w₁ (6 * n) k))
+      can-unite-close = ((r, grown-first, hashed-first), (omega (arith, same-first), falling-first))
 
-    -- ---- after either: leaders s, which stand for sets with the lowest cells `low`
-    module _ {low : ℕ → ℕ} {s : List ℕ} (st : Stands k low s) {w₂ : List ℕ} (e₂ : w₂ ≡ over w₁ (6 * n) s) where
-      second : w₂ ≡ over w (6 * n) s
-      second = e₂ ∙ ap (λ (z : List ℕ). over z (6 * n) s) first ∙ over-again w (6 * n) q s (omega arith) (st .size ∙ sym size)
+      -- the close pairs are some of all pairs
+      abbrev close : List (ℕ × ℕ)
+      close = closePairs v n ps (sortedCells w₁ n k)
 
-      pub room-second : 7 * n ≤ length w₂
-      room-second = omega (arith, ap length second, over-length w (6 * n) s (omega (arith, st .size, few)))
+      close-some : (a b : ℕ) → In (a, b) close → In (a, b) (pairsOf g)
+      close-some = close-in r (sortedCells w₁ n k) low
+        where
+          low : (p : ℕ) → p < length (sortedCells w₁ n k) → getD (sortedCells w₁ n k) p 0 < length (cells g)
+          low p h =
+              let m = sorted-low r grown-first hashed-first in
+              let l : p < sortedCount w₁ n k = omega (arith, part-length w₁ (14 * n) (sortedCount w₁ n k) (omega (arith, few, same-first))) in
+              omega (arith, part-at w₁ (14 * n) (sortedCount w₁ n k) p l, sorted-cell r hashed-first p (omega (arith, cell-count r gr)))
 
-      leaders-second : part w₂ (6 * n) (6 * n + k - 6 * n) ≡ s
-      leaders-second = lent w₂ n k few room-second ∙ ap (λ (z : List ℕ). part z (6 * n) k) second ∙ part-same w (6 * n) k s (omega arith) (st .size)
+      -- what they leave of the leaders
+      abbrev C : List ℕ
+      C = meetAll byOwnLeaders (touchAt g) close (column (λ c. c) k)
 
-      pub falling-second : Falling (part w₂ (6 * n) (6 * n + k - 6 * n))
-      falling-second = subst Falling (sym leaders-second) (st .falling)
+      close-stand : Stands k (meetAll byLowest (touchAt g) close (λ c. c)) C
+      close-stand = all-stand (touchAt g) k close (λ a b i. let z = in-pairs g a b (close-some a b i) in (omega (arith, z .0, cell-count r gr), omega (arith, z .1, cell-count r gr))) (alone-stands k)
 
-      -- ---- each cell its lowest
-      pub lowest-words : {f : List ℕ} → f ≡ column (root (part w₂ (6 * n) (6 * n + k - 6 * n))) (length (part w₂ (6 * n) (6 * n + k - 6 * n)))
-          → putMid (6 * n) (6 * n + k - 6 * n) w₂ f ≡ over w (6 * n) (column low k)
-      lowest-words {f} e =
-          let i : f ≡ column low k =
-          e
-          ∙ ap₂ (λ (p : List ℕ) (m : ℕ). column (root p) m) leaders-second (ap length leaders-second ∙ st .size)
-          ∙ map-same (root s) low (numbers k) (λ c j. st .roots c (in-numbers k c j)) in
-          let j : length f ≡ k = ap length i ∙ length-numbers low k in
-          back w₂ n k few room-second f j
-          ∙ ap₂ (λ (y z : List ℕ). over y (6 * n) z) second i
-          ∙ over-again w (6 * n) s (column low k) (omega arith) (length-numbers low k ∙ sym (st .size))
+      close-size : length C ≡ k
+      close-size = close-stand .size
+
+      module _ {u : List ℕ} (eu : u ≡ over w₁ (6 * n) (meetAll byOwnLeaders (touchAt (geometryAt v n ps)) (closePairs v n ps (sortedCells w₁ n k)) (part w₁ (6 * n) k))) where
+        close-laid : u ≡ over w (6 * n) C
+        close-laid =
+            eu
+            ∙ ap₂ (λ (x p : List ℕ). over x (6 * n) (meetAll byOwnLeaders (touchAt g) close p)) first leaders-first
+            ∙ over-again w (6 * n) q C (omega arith) (close-size ∙ sym size)
+
+        same-close : length u ≡ length w
+        same-close = ap length close-laid ∙ over-length w (6 * n) C (omega (arith, close-size, few))
+
+        leaders-close : part u (6 * n) k ≡ C
+        leaders-close = ap (λ (z : List ℕ). part z (6 * n) k) close-laid ∙ part-same w (6 * n) k C (omega arith) close-size
+
+        met-stand : Stands k (lowestAt g (n * n)) (meetLists g (touchAt g) (listOf v n ps) (numbers k) (part u (6 * n) k))
+        met-stand =
+            let l : length (cells g) ≤ n = omega (arith, few, cell-count r gr) in
+            subst (λ (p : List ℕ). Stands k (lowestAt g (n * n)) (meetLists g (touchAt g) (listOf v n ps) (numbers k) p)) (sym leaders-close)
+            (subst (λ (m : ℕ). Stands m (lowestAt g (n * n)) (meetLists g (touchAt g) (listOf v n ps) (numbers m) (meetAll byOwnLeaders (touchAt g) close (column (λ c. c) m)))) (sym (cell-count r gr))
+            (lists-stand g (listOf v n ps) (list-listed r) (n * n) (mul-le-mul l l) close close-some))
+
+        pub can-unite-lists : (Ready ps v n × Grown g k u × Hashed v n ps u) × ((16 * n ≤ length u) × Clear u (15 * n) n × Falling (part u (6 * n) k))
+        can-unite-lists = (
+          (
+            r,
+            subst (Grown g k) (sym close-laid) (grown-over gr (frames r gr) (6 * n) C (omega arith) (omega (arith, close-size, few)) (omega arith)),
+            subst (Hashed v n ps) (sym close-laid) (hashed-over r (6 * n) C (omega arith) (inl (omega (arith, close-size, few))) H),
+          ),
+          (
+            omega (arith, same-close),
+            subst (λ (x : List ℕ). Clear x (15 * n) n) (sym close-laid) (clear-after w (15 * n) n (6 * n) C (omega arith) (omega (arith, close-size, few)) z),
+            subst Falling (sym leaders-close) (close-stand .falling),
+          ),
+        )
+
+        -- ---- all pairs are met
+        module _ {w₂ : List ℕ} (e₂ : w₂ ≡ over u (6 * n) (meetLists (geometryAt v n ps) (touchAt (geometryAt v n ps)) (listOf v n ps) (numbers k) (part u (6 * n) k))) where
+          pub room-met : 7 * n ≤ length w₂
+          room-met = room-second C close-laid close-size met-stand e₂
+
+          pub falling-met : Falling (part w₂ (6 * n) (6 * n + k - 6 * n))
+          falling-met = falling-second C close-laid close-size met-stand e₂
+
+          pub lowest-met : {f : List ℕ} → f ≡ column (root (part w₂ (6 * n) (6 * n + k - 6 * n))) (length (part w₂ (6 * n) (6 * n + k - 6 * n)))
+              → putMid (6 * n) (6 * n + k - 6 * n) w₂ f ≡ over w (6 * n) (column (lowestAt (geometryAt v n ps) (n * n)) k)
+          lowest-met = lowest-words C close-laid close-size met-stand e₂

@@ -9,6 +9,8 @@ pub mod Uniting
 pub mod UnitingLaws
 pub mod UniteAll
 pub mod UniteAllLaws
+pub mod Close
+pub mod CloseLaws
 pub mod Numbering
 pub mod NumberingLaws
 pub mod AnyLabels

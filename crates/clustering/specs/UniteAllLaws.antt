@@ -1,4 +1,4 @@
--- Laws of uniting with no count of trials: whatever the order of the pairs, and without those of cells that have one leader, it leaves the sets that enough trials leave.
+-- Laws of uniting with no count of trials: whatever the order of the pairs, with some of them taken before, and without those of cells that have one leader, it leaves the sets that enough trials leave.
 use mathlib.Core.Path.{_≡_, refl, sym, ap, _∙_, subst}
 use mathlib.Core.Logic.{inl, inr}
 use mathlib.Core.Bool.{Bool, true, false, not, _&&_, _||_, cond, and-comm}
@@ -12,7 +12,7 @@ use lib.ListN.{length, getD}
 use borrow.Author.Tests.{lt-ltb, eq-eqb}
 use Rattle.lists.specs.Lists.{numbers, keep, In, Below}
 use Rattle.lists.specs.Words.{column}
-use Rattle.lists.specs.ListLaws.{true-T, not-turn, keep-in, in-keep, keep-same, concat-in, in-concat, map-in, in-map, numbers-in, in-numbers}
+use Rattle.lists.specs.ListLaws.{true-T, not-turn, keep-in, in-keep, keep-same, append-two, in-append, concat-in, in-concat, map-in, in-map, numbers-in, in-numbers}
 use Rattle.lists.specs.CountLaws.{keep-keep, keep-map}
 use Rattle.lists.specs.Chains.{Chain, chain-map}
 use Rattle.hyperparams.specs.declared.ValidParams.{ValidParams}
@@ -230,17 +230,22 @@ module _ (g : Geometry) (lists : ℕ → List ℕ) where
         rw (meet-append byLowest touch (pairsWith g c (lists c)) (pairsBy g lists cs) l) (rows-stand touch cs (λ d i. below d (inr i))
         (row-stands g touch cellCount c (lists c) h (λ d i. exact .sound c d h i .0) (shorten-stands s c h)))
 
-    module _ (trials : ℕ) (enough : cellCount * cellCount ≤ trials) where
-      -- what enough trials leave
-      by-lowest : (x : ℕ) → meetAll byLowest (touchAt g) (pairsBy g lists (numbers cellCount)) (λ c. c) x ≡ lowestAt g trials x
+    module _ (trials : ℕ) (enough : cellCount * cellCount ≤ trials) (before : List (ℕ × ℕ)) (some : (a b : ℕ) → In (a, b) before → In (a, b) (pairsOf g)) where
+      abbrev all : List (ℕ × ℕ)
+      all = pairsBy g lists (numbers cellCount)
+
+      -- some of the pairs and then all of them leave what enough trials leave
+      by-lowest : (x : ℕ) → meetAll byLowest (touchAt g) all (meetAll byLowest (touchAt g) before (λ c. c)) x ≡ lowestAt g trials x
       unfolding lowestAt uniting
       by-lowest x =
-          any-order (touchAt g) (pairsBy g lists (numbers cellCount)) (pairsOf g) by-in in-by x
+          ap (λ (l : ℕ → ℕ). l x) (sym (meet-append byLowest (touchAt g) before all (λ c. c)))
+          ∙ any-order (touchAt g) (before ++ all) (pairsOf g) (λ a b i. elim (in-append (a, b) before all i) [ inl j ↦ some a b j | inr j ↦ by-in a b j ]) (λ a b i. append-two (a, b) before all (in-by a b i)) x
           ∙ ap (λ (l : ℕ → ℕ). l x) (sym (run-meets byLowest (touchAt g) trials 0 (pairsOf g) (λ c. c) (omega (arith, pairs-few g))))
 
-      pub lists-stand : Stands cellCount (lowestAt g trials) (meetLists g (touchAt g) lists (numbers cellCount) (column (λ c. c) cellCount))
+      pub lists-stand : Stands cellCount (lowestAt g trials) (meetLists g (touchAt g) lists (numbers cellCount) (meetAll byOwnLeaders (touchAt g) before (column (λ c. c) cellCount)))
       lists-stand =
-          let s = rows-stand (touchAt g) (numbers cellCount) (in-numbers cellCount) (alone-stands cellCount) in
+          let within : Within cellCount before = λ a b i. let z = in-pairs g a b (some a b i) in (z .0, z .1) in
+          let s = rows-stand (touchAt g) (numbers cellCount) (in-numbers cellCount) (all-stand (touchAt g) cellCount before within (alone-stands cellCount)) in
           record { falling = s .falling; size = s .size; roots = λ c h. s .roots c h ∙ by-lowest c }
 
 -- the lists that cells have are such

@@ -7,6 +7,7 @@ use cells_grid::listing::LIST;
 use hyperparams::ValidParams;
 use lists::Word;
 ghost use mathlib.Core.Path.{_≡_};
+ghost use mathlib.Core.Bool.{true};
 ghost use Prim.Native.Nat.{ℕ, _+_, _*_, _<_, _≤_};
 ghost use lib.Dec.{T};
 ghost use lib.ListN.{length};
@@ -21,6 +22,10 @@ ghost use Rattle.partitions.specs.Trials.{run, byLeaders};
 ghost use Rattle.clustering.specs.Clusters.{touches};
 ghost use Rattle.clustering.specs.Uniting.{pairAt, onePair, pairsWith, pairsOf, touchAt, stopped, progressOf, uniting, lowestAt};
 ghost use Rattle.clustering.specs.UniteAll.{meetAll, byOwnLeaders, meetLists};
+ghost use Rattle.clustering.specs.Close.{sortedCells, closeAt, closePair, closePairs};
+
+// With how many of those before it a sorted cell is taken, before any search.
+const BACK: usize = 8;
 
 // What a trial left: the trials used, and whether the pair needs one more than there are.
 struct Tried {
@@ -291,6 +296,79 @@ fn unite_lists(points: &[i16], v: ValidParams, n: usize, k: usize, work: &mut [W
     }
 }
 
+// Whether the first frames of cells c and d are core frames nearer than the tolerance: then c touches d, and nothing else has to be asked.
+fn is_close(
+    points: &[i16],
+    v: ValidParams,
+    n: usize,
+    k: usize,
+    work: &[Word],
+    c: usize,
+    d: usize,
+) -> bool
+    requires { ⌜ Ready (now points) v n × Grown (geometryAt v n (now points)) k (now work) × (c < k) × (d < k) ⌝ }
+    ensures value { λ r. ⌜ r ≡ closeAt v n (now (points .entry)) c d ⌝ }
+    ensures touches { λ r. ⌜ (let g = geometryAt v n (now (points .entry)) in r ≡ true → true ≡ touches g (cellAt g c) (cellAt g d)) ⌝ }
+{
+    let i = lists::word(work, n + c);
+    let j = lists::word(work, n + d);
+    if counting_tree::points::square_apart(points, v, n, i, j) >= v.t * v.t {
+        return false;
+    }
+    if !cells_grid::is_core(work, n, i) {
+        return false;
+    }
+    cells_grid::is_core(work, n, j)
+}
+
+// Takes two cells: where they are in two sets and close, makes one set of theirs.
+fn meet_close(
+    points: &[i16],
+    v: ValidParams,
+    n: usize,
+    k: usize,
+    work: &mut [Word],
+    c: usize,
+    d: usize,
+)
+    requires { ⌜ Ready (now points) v n × Grown (geometryAt v n (now points)) k (now work) × (c < k) × (d < k) ⌝ }
+    requires { ⌜ (7 * n ≤ length (now work)) × Falling (part (now work) (6 * n) k) ⌝ }
+    ensures { λ _. ⌜ now (work .exit) ≡ over (now (work .entry)) (6 * n)
+        (meetAll byOwnLeaders (touchAt (geometryAt v n (now (points .entry)))) (closePair v n (now (points .entry)) c d) (part (now (work .entry)) (6 * n) k)) ⌝ }
+{
+    let a = LEADERS * n;
+    if lists::word(work, a + c) == lists::word(work, a + d) {
+        return;
+    }
+    if !is_close(points, v, n, k, work, c, d) {
+        return;
+    }
+    let e = a + k;
+    if partitions::same_set(&mut work[a..e], c, d) {
+        return;
+    }
+    partitions::union(&mut work[a..e], c, d);
+}
+
+// Takes the sorted core cells, each with the few before it. (Cells that stand together mostly lie in one block: so most of those that are linked
+// are united with no search, and the search that follows finds them in one set. Turn q is for the cell at place q / 8.)
+fn unite_close_cells(points: &[i16], v: ValidParams, n: usize, k: usize, work: &mut [Word])
+    requires { ⌜ Ready (now points) v n × Grown (geometryAt v n (now points)) k (now work) × Hashed v n (now points) (now work) ⌝ }
+    requires { ⌜ (16 * n ≤ length (now work)) × Falling (part (now work) (6 * n) k) ⌝ }
+    ensures { λ _. ⌜ now (work .exit) ≡ over (now (work .entry)) (6 * n) (meetAll byOwnLeaders (touchAt (geometryAt v n (now (points .entry))))
+        (closePairs v n (now (points .entry)) (sortedCells (now (work .entry)) n k)) (part (now (work .entry)) (6 * n) k)) ⌝ }
+{
+    let turns = BACK * cells_grid::listing::sorted_count(work, n, k);
+    let mut q = BACK * BACK;
+    while q < turns {
+        let p = q / BACK;
+        let c = lists::word(work, blocks::PLACES * n + p);
+        let d = lists::word(work, blocks::PLACES * n + (p - 1 - q % BACK));
+        meet_close(points, v, n, k, work, c, d);
+        q += 1;
+    }
+}
+
 // Writes the lowest cell of each cell's set, with all linked core cells united, in whatever order the lists give them.
 pub fn unite_listed_cells(points: &[i16], v: ValidParams, n: usize, k: usize, work: &mut [Word])
     requires { ⌜ Ready (now points) v n × Grown (geometryAt v n (now points)) k (now work) × Hashed v n (now points) (now work)
@@ -300,6 +378,7 @@ pub fn unite_listed_cells(points: &[i16], v: ValidParams, n: usize, k: usize, wo
     let a = LEADERS * n;
     let e = a + k;
     partitions::reset(&mut work[a..e]);
+    unite_close_cells(points, v, n, k, work);
     unite_lists(points, v, n, k, work);
     flatten(&mut work[a..e]);
 }

@@ -1,7 +1,7 @@
 -- `unite_listed_cells` meets its contract, by what the words are after each of its calls.
 use native.Mathlib.Omega.{arith}
 use Rattle.clustering.proofs.Held.{few-cells}
-use Rattle.clustering.proofs.Phases.{few-leaders, can-unite-lists, met-stand, room-second, falling-second, lowest-words}
+use Rattle.clustering.proofs.Phases.{few-leaders, can-unite-close, can-unite-lists, room-met, falling-met, lowest-met}
 use borrow.Author.Needs.{needs}
 use Rattle.clustering.proofs.uniting.unite_listed_cells.Statement.{statement}
 use Rattle.clustering.proofs.uniting.unite_listed_cells.Tie as tie
@@ -29,10 +29,15 @@ reset-requires c κs =
     let s = c .before .before .pre in
     few-leaders (s .0) (s .1) (omega (arith, s .3))
 
+unite-close-cells-requires : tie.Need-unite-close-cells-requires
+unite-close-cells-requires c κs =
+    let s = c .before .before .before .before .before .before .pre in
+    can-unite-close (s .0) (s .1) (omega (arith, s .3)) (c .before .before .before .reset .ensures) (s .2) (s .3) (s .4)
+
 unite-lists-requires : tie.Need-unite-lists-requires
 unite-lists-requires c κs =
-    let s = c .before .before .before .before .before .before .pre in
-    can-unite-lists (s .0) (s .1) (omega (arith, s .3)) (c .before .before .before .reset .ensures) (s .2) (s .3) (s .4)
+    let s = c .before .before .before .before .before .before .before .before .before .before .pre in
+    can-unite-lists (s .0) (s .1) (omega (arith, s .3)) (c .before .before .before .before .before .before .before .reset .ensures) (s .2) (s .3) (s .4) (c .before .before .before .unite-close-cells .ensures)
 
 mul-flatten : tie.Need-mul-flatten
 mul-flatten c = search needs
@@ -45,21 +50,21 @@ part-flatten-start c = search needs
 
 part-flatten-end : tie.Need-part-flatten-end
 part-flatten-end c =
-    let s = c .before .before .before .before .before .before .before .before .before .pre in
-    omega (arith, few-cells (s .0) (s .1), room-second (s .0) (s .1) (omega (arith, s .3)) (c .before .before .before .before .before .before .reset .ensures) (met-stand (s .0) (s .1) (omega (arith, s .3)) (c .before .before .before .before .before .before .reset .ensures)) (c .before .before .unite-lists .ensures))
+    let s = c .before .before .before .before .before .before .before .before .before .before .before .before .before .pre in
+    omega (arith, few-cells (s .0) (s .1), room-met (s .0) (s .1) (omega (arith, s .3)) (c .before .before .before .before .before .before .before .before .before .before .reset .ensures) (s .2) (s .3) (s .4) (c .before .before .before .before .before .before .unite-close-cells .ensures) (c .before .before .unite-lists .ensures))
 
 flatten-requires : tie.Need-flatten-requires
 flatten-requires c κs =
-    let s = c .before .before .before .before .before .before .before .before .before .before .pre in
-    falling-second (s .0) (s .1) (omega (arith, s .3)) (c .before .before .before .before .before .before .before .reset .ensures) (met-stand (s .0) (s .1) (omega (arith, s .3)) (c .before .before .before .before .before .before .before .reset .ensures)) (c .before .before .before .unite-lists .ensures)
+    let s = c .before .before .before .before .before .before .before .before .before .before .before .before .before .before .pre in
+    falling-met (s .0) (s .1) (omega (arith, s .3)) (c .before .before .before .before .before .before .before .before .before .before .before .reset .ensures) (s .2) (s .3) (s .4) (c .before .before .before .before .before .before .before .unite-close-cells .ensures) (c .before .before .before .unite-lists .ensures)
 
 same-length : tie.Need-same-length
 same-length c = search needs
 
 returns : tie.Need-returns
 returns c =
-    let s = c .before .before .before .before .before .before .before .before .before .before .before .before .before .pre in
-    lowest-words (s .0) (s .1) (omega (arith, s .3)) (c .before .before .before .before .before .before .before .before .before .before .reset .ensures) (met-stand (s .0) (s .1) (omega (arith, s .3)) (c .before .before .before .before .before .before .before .before .before .before .reset .ensures)) (c .before .before .before .before .before .before .unite-lists .ensures) (c .before .before .flatten .ensures)
+    let s = c .before .before .before .before .before .before .before .before .before .before .before .before .before .before .before .before .before .pre in
+    lowest-met (s .0) (s .1) (omega (arith, s .3)) (c .before .before .before .before .before .before .before .before .before .before .before .before .before .before .reset .ensures) (s .2) (s .3) (s .4) (c .before .before .before .before .before .before .before .before .before .before .unite-close-cells .ensures) (c .before .before .before .before .before .before .unite-lists .ensures) (c .before .before .flatten .ensures)
 
 pub unite-listed-cells-spec : {M : Type 1} → statement M
 unite-listed-cells-spec =
@@ -72,6 +77,7 @@ unite-listed-cells-spec =
     part-reset-start
     part-reset-end
     reset-requires
+    unite-close-cells-requires
     unite-lists-requires
     mul-flatten
     sub-flatten

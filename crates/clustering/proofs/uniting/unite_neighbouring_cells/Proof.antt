@@ -1,7 +1,7 @@
 -- `unite_neighbouring_cells` meets its contract, by what the words are after each of its calls.
 use native.Mathlib.Omega.{arith}
 use Rattle.clustering.proofs.Held.{few-cells}
-use Rattle.clustering.proofs.Phases.{few-leaders, room-first, grown-first, falling-first, progress, tried-stand, room-second, falling-second, lowest-words}
+use Rattle.clustering.proofs.Phases.{few-leaders, size, first, room-first, grown-first, falling-first, progress, tried-stand, room-second, falling-second, lowest-words}
 use borrow.Author.Needs.{needs}
 use Rattle.clustering.proofs.uniting.unite_neighbouring_cells.Statement.{statement}
 use Rattle.clustering.proofs.uniting.unite_neighbouring_cells.Tie as tie
@@ -48,14 +48,14 @@ part-flatten-end c =
     omega (
       arith,
       few-cells (s .0) (s .1),
-      room-second (s .0) (s .1) (s .2) (c .before .before .before .before .before .before .reset .ensures)
+      room-second (s .0) (s .1) (s .2) _ (first (s .0) (s .1) (s .2) (c .before .before .before .before .before .before .reset .ensures)) (size (s .0) (s .1) (s .2) (c .before .before .before .before .before .before .reset .ensures))
           (tried-stand (s .0) (s .1) (s .2) (c .before .before .before .before .before .before .reset .ensures) _) (c .before .before .unite-pairs .ensures .1),
     )
 
 flatten-requires : tie.Need-flatten-requires
 flatten-requires c κs =
     let s = c .before .before .before .before .before .before .before .before .before .before .pre in
-    falling-second (s .0) (s .1) (s .2) (c .before .before .before .before .before .before .before .reset .ensures)
+    falling-second (s .0) (s .1) (s .2) _ (first (s .0) (s .1) (s .2) (c .before .before .before .before .before .before .before .reset .ensures)) (size (s .0) (s .1) (s .2) (c .before .before .before .before .before .before .before .reset .ensures))
     (tried-stand (s .0) (s .1) (s .2) (c .before .before .before .before .before .before .before .reset .ensures) _) (c .before .before .before .unite-pairs .ensures .1)
 
 same-length : tie.Need-same-length
@@ -66,7 +66,7 @@ returns c =
     let s = c .before .before .before .before .before .before .before .before .before .before .before .before .before .pre in (
       progress (s .0) (s .1) (s .2) (c .before .before .before .before .before .before .before .before .before .before .reset .ensures) _
           (c .before .before .before .before .before .before .unite-pairs .ensures .0),
-      lowest-words (s .0) (s .1) (s .2) (c .before .before .before .before .before .before .before .before .before .before .reset .ensures) (tried-stand (s .0) (s .1) (s .2) (c .before .before .before .before .before .before .before .before .before .before .reset .ensures) _)
+      lowest-words (s .0) (s .1) (s .2) _ (first (s .0) (s .1) (s .2) (c .before .before .before .before .before .before .before .before .before .before .reset .ensures)) (size (s .0) (s .1) (s .2) (c .before .before .before .before .before .before .before .before .before .before .reset .ensures)) (tried-stand (s .0) (s .1) (s .2) (c .before .before .before .before .before .before .before .before .before .before .reset .ensures) _)
           (c .before .before .before .before .before .before .unite-pairs .ensures .1) (c .before .before .flatten .ensures),
     )
 
