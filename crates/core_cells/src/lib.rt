@@ -29,7 +29,7 @@ ghost use Rattle.tree_structure.specs.Encode.{toldOf};
 ghost use Rattle.core_cells.specs.Forest.{coreAmong, CanGather, treeSize, treeWords, nodesTo, forestTo, treeWord, Grown};
 ghost use Rattle.core_cells.specs.Nearest.{CanLook, beyond, leastUntil, outOfReach};
 ghost use Rattle.core_cells.specs.RootBox.{rootBox, rootUnless};
-ghost use Rattle.core_cells.specs.Settling.{framesFirst, settledByFrames, settledByRoot, Tells};
+ghost use Rattle.core_cells.specs.Settling.{framesFirst, settledByFrames, settledByRoot, toldBy, Tells};
 
 // The regions, of one word a frame: from 5n on where the tree of each cell begins, from 10n on the core frames of one cell,
 // from 11n and 12n on what building its tree needs; these three are 0 before and after. From 16n on the nodes, of four words.
@@ -392,49 +392,9 @@ fn reaches_by_paths(
     tree_count(points, v, n, k, work, q, c).count != 0
 }
 
-// The same, by what its frames settle first.
-fn reaches_frames(
-    points: &[i16],
-    v: ValidParams,
-    n: usize,
-    k: usize,
-    work: &[Word],
-    q: usize,
-    c: usize,
-) -> bool
-    requires { ⌜ Ready (now points) v n × Grown (geometryAt v n (now points)) k (now work) × (q < n) × (c < k) ⌝ }
-    ensures { λ r. ⌜ r ≡ nonzero (count (geometryAt v n (now (points .entry))) q (cellAt (geometryAt v n (now (points .entry))) c)) ⌝ }
-{
-    let told = settled_by_frames(points, v, n, k, work, q, c);
-    if let IntersectionType::Intersecting = told {
-        return reaches_by_paths(points, v, n, k, work, q, c);
-    }
-    is_covered(told)
-}
-
-// The same, by what its root box settles first.
-fn reaches_root(
-    points: &[i16],
-    v: ValidParams,
-    n: usize,
-    k: usize,
-    work: &[Word],
-    q: usize,
-    c: usize,
-) -> bool
-    requires { ⌜ Ready (now points) v n × Grown (geometryAt v n (now points)) k (now work) × (q < n) × (c < k) ⌝ }
-    ensures { λ r. ⌜ r ≡ nonzero (count (geometryAt v n (now (points .entry))) q (cellAt (geometryAt v n (now (points .entry))) c)) ⌝ }
-{
-    let root = root_box(points, v, n, k, work, c);
-    let told = settled_by_root(points, v, n, k, work, q, c, root);
-    if let IntersectionType::Intersecting = told {
-        return reaches_by_paths(points, v, n, k, work, q, c);
-    }
-    is_covered(told)
-}
-
-// The same, by its root box `root` and then its frames.
-fn root_then_frames(
+// What the frames of cell c, or its root box `root`, tell of the count of frame q in its tree.
+fn settled_by(
+    frames: bool,
     points: &[i16],
     v: ValidParams,
     n: usize,
@@ -443,19 +403,20 @@ fn root_then_frames(
     q: usize,
     c: usize,
     root: Box,
-) -> bool
-    requires { ⌜ Ready (now points) v n × Grown (geometryAt v n (now points)) k (now work) × (q < n) × (c < k) × (root ≡ rootBox v n (now points) c) ⌝ }
-    ensures { λ r. ⌜ r ≡ nonzero (count (geometryAt v n (now (points .entry))) q (cellAt (geometryAt v n (now (points .entry))) c)) ⌝ }
+) -> IntersectionType
+    requires { ⌜ Ready (now points) v n × Grown (geometryAt v n (now points)) k (now work) × (q < n) × (c < k) × (root ≡ rootUnless frames v n (now points) c) ⌝ }
+    ensures value { λ r. ⌜ r ≡ toldBy v n (now (points .entry)) q c frames ⌝ }
+    ensures tells { λ r. ⌜ Tells v n (now (points .entry)) q c r ⌝ }
 {
-    let told = settled_by_root(points, v, n, k, work, q, c, root);
-    if let IntersectionType::Intersecting = told {
-        return reaches_frames(points, v, n, k, work, q, c);
+    if frames {
+        return settled_by_frames(points, v, n, k, work, q, c);
     }
-    is_covered(told)
+    settled_by_root(points, v, n, k, work, q, c, root)
 }
 
-// The same, by its frames and then its root box, which is worked out only where these settle nothing.
-fn frames_then_root(
+// The same as `reaches_by_paths`, by what the frames of the cell, or else its root box, settle first.
+fn reaches_second(
+    frames: bool,
     points: &[i16],
     v: ValidParams,
     n: usize,
@@ -467,14 +428,15 @@ fn frames_then_root(
     requires { ⌜ Ready (now points) v n × Grown (geometryAt v n (now points)) k (now work) × (q < n) × (c < k) ⌝ }
     ensures { λ r. ⌜ r ≡ nonzero (count (geometryAt v n (now (points .entry))) q (cellAt (geometryAt v n (now (points .entry))) c)) ⌝ }
 {
-    let told = settled_by_frames(points, v, n, k, work, q, c);
+    let root = root_unless(frames, points, v, n, k, work, c);
+    let told = settled_by(frames, points, v, n, k, work, q, c, root);
     if let IntersectionType::Intersecting = told {
-        return reaches_root(points, v, n, k, work, q, c);
+        return reaches_by_paths(points, v, n, k, work, q, c);
     }
     is_covered(told)
 }
 
-// Whether frame q has a non-zero count in the tree of cell c: by its frames first, or by its root box, which is `root` then.
+// Whether frame q has a non-zero count in the tree of cell c: by its frames first, or by its root box, which is `root` then; what the one leaves open, the other is asked.
 pub fn reaches(
     points: &[i16],
     v: ValidParams,
@@ -489,8 +451,9 @@ pub fn reaches(
     requires { ⌜ Ready (now points) v n × Grown (geometryAt v n (now points)) k (now work) × (q < n) × (c < k) × (root ≡ rootUnless first v n (now points) c) ⌝ }
     ensures { λ r. ⌜ r ≡ nonzero (count (geometryAt v n (now (points .entry))) q (cellAt (geometryAt v n (now (points .entry))) c)) ⌝ }
 {
-    if first {
-        return frames_then_root(points, v, n, k, work, q, c);
+    let told = settled_by(first, points, v, n, k, work, q, c, root);
+    if let IntersectionType::Intersecting = told {
+        return reaches_second(!first, points, v, n, k, work, q, c);
     }
-    root_then_frames(points, v, n, k, work, q, c, root)
+    is_covered(told)
 }

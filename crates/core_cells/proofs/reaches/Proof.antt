@@ -1,21 +1,34 @@
--- `reaches` meets its contract, in either order.
+-- `reaches` meets its contract: what is settled first, or what is asked then.
 use borrow.Author.Needs.{needs}
-use Rattle.core_cells.proofs.Reaching.{not-first}
+use Rattle.core_cells.proofs.Reaching.{settled-is}
 use Rattle.core_cells.proofs.reaches.Statement.{statement}
 use Rattle.core_cells.proofs.reaches.Tie as tie
 
-frames-then-root-requires : tie.Need-frames-then-root-requires
-frames-then-root-requires c κs = search needs
+settled-by-requires : tie.Need-settled-by-requires
+settled-by-requires c κs = search needs
+
+enum-told : tie.Need-enum-told
+enum-told c = search needs
+
+reaches-second-requires : tie.Need-reaches-second-requires
+reaches-second-requires c κs = search needs
 
 returns : tie.Need-returns
 returns c = search needs
 
-root-then-frames-requires : tie.Need-root-then-frames-requires
-root-then-frames-requires c κs = not-first (c .before .before .pre) (c .if1 .left)
+is-covered-requires : tie.Need-is-covered-requires
+is-covered-requires c κs = search needs
 
 returns-2 : tie.Need-returns-2
-returns-2 c = search needs
+returns-2 c = settled-is (c .before .before .settled-by .result) (λ z. rw z at (c .before .match .keys2)) (c .before .before .settled-by .ensures .1) (c .is-covered .ensures)
 
 pub reaches-spec : {M : Type 1} → statement M
 reaches-spec =
-    tie.close (tie.spec frames-then-root-requires returns root-then-frames-requires returns-2)
+    tie.close
+    (tie.spec
+    settled-by-requires
+    enum-told
+    reaches-second-requires
+    returns
+    is-covered-requires
+    returns-2)

@@ -1,0 +1,38 @@
+-- `reaches_second` meets its contract: what is settled, or what the frames' paths or the tree say.
+use borrow.Author.Needs.{needs}
+use Rattle.core_cells.proofs.Reaching.{settled-is}
+use Rattle.core_cells.proofs.reaches_second.Statement.{statement}
+use Rattle.core_cells.proofs.reaches_second.Tie as tie
+
+root-unless-requires : tie.Need-root-unless-requires
+root-unless-requires c κs = search needs
+
+settled-by-requires : tie.Need-settled-by-requires
+settled-by-requires c κs = search needs
+
+enum-told : tie.Need-enum-told
+enum-told c = search needs
+
+reaches-by-paths-requires : tie.Need-reaches-by-paths-requires
+reaches-by-paths-requires c κs = search needs
+
+returns : tie.Need-returns
+returns c = search needs
+
+is-covered-requires : tie.Need-is-covered-requires
+is-covered-requires c κs = search needs
+
+returns-2 : tie.Need-returns-2
+returns-2 c = settled-is (c .before .before .settled-by .result) (λ z. rw z at (c .before .match .keys2)) (c .before .before .settled-by .ensures .1) (c .is-covered .ensures)
+
+pub reaches-second-spec : {M : Type 1} → statement M
+reaches-second-spec =
+    tie.close
+    (tie.spec
+    root-unless-requires
+    settled-by-requires
+    enum-told
+    reaches-by-paths-requires
+    returns
+    is-covered-requires
+    returns-2)
