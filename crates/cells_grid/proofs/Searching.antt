@@ -214,7 +214,7 @@ module _ {v : ValidParams} {n : ℕ} {ps : List ℤ} {k i r along h marks mark m
   row-holds = stretch-holds (Q .hashed) (omega (arith, Q .arranged .count, Q .least)) (Q .low) (Q .found)
 
   abbrev B : ℕ
-  B = bucketAround (reachOf v) v n ps K (cellAt g) (coreAt g) i r
+  B = bucketAround (reachOf v) v n ps (4 * K - 1) i r
 
   bucket-is : b ≡ B
   unfolding bucketAround
