@@ -34,7 +34,7 @@ module _ (w : List ℕ) (ends b size : ℕ) where
 pub record Stretched (key : ℕ → ℕ) (m places b size : ℕ) (w : List ℕ) (s : Stretch) : Type 0 where
   pub low : s .«from» ≤ s .to
   pub high : s .to ≤ m
-  pub rest-high : s .rest ≤ m
+  pub rest-low : s .rest ≤ s .to
   pub both : part w (places + s .«from») (s .to - s .«from») ++ part w (places + 0) (s .rest - 0) ≡ numbered key m b ++ numbered key m ((b + 1) % size)
 
 module _ {key : ℕ → ℕ} {m all size ends places : ℕ} {w : List ℕ} (S : Sorted key m all ends places w) (e : all ≡ size + 1) {b : ℕ} (h : b < size) where
@@ -45,7 +45,7 @@ module _ {key : ℕ → ℕ} {m all size ends places : ℕ} {w : List ℕ} (S : 
       record {
         low = start-mono key m b (b + 2) (omega arith);
         high = start-le key m (b + 2);
-        rest-high = omega arith;
+        rest-low = omega arith;
         both = ap (λ (z : List ℕ). z ++ []) (between S b (b + 2) (omega arith) (omega arith) ∙ ap (λ (z : ℕ). concat (map (numbered key m) (from b z))) d)
             ∙ append-nil (numbered key m b ++ (numbered key m (suc b) ++ []))
             ∙ ap (λ (x : List ℕ). numbered key m b ++ x) (append-nil (numbered key m (suc b)))
@@ -60,7 +60,7 @@ module _ {key : ℕ → ℕ} {m all size ends places : ℕ} {w : List ℕ} (S : 
       record {
         low = start-mono key m b (b + 1) (omega arith);
         high = start-le key m (b + 1);
-        rest-high = start-le key m 1;
+        rest-low = start-mono key m 1 (b + 1) (omega arith);
         both = ap₂ _++_ (between S b (b + 1) (omega arith) (omega arith) ∙ ap (λ (z : ℕ). concat (map (numbered key m) (from b z))) d ∙ append-nil (numbered key m b))
             (ap (λ (y : ℕ). part w (places + y) (startOf key m 1 - y)) (sym (start-of-none key m)) ∙ between S 0 1 (omega arith) (omega arith) ∙ append-nil (numbered key m 0))
             ∙ ap (λ (y : ℕ). numbered key m b ++ numbered key m y) (sym (ap (λ (y : ℕ). y % size) z ∙ mod-self size));

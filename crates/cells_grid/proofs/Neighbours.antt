@@ -236,7 +236,7 @@ module _ {ps : List ℤ} {v : ValidParams} {n i : ℕ} {w : List ℕ} (m : ℕ) 
     stretch-fits = (H .low, H .high, λ x j. low x (append-one x A B j))
 
     pub rest-fits : (0 ≤ s .rest) × (s .rest ≤ n) × Below n (part w (14 * n + 0) (s .rest - 0))
-    rest-fits = (omega arith, H .rest-high, λ x j. low x (append-two x A B j))
+    rest-fits = (omega arith, omega (arith, H .high, H .rest-low), λ x j. low x (append-two x A B j))
 
     pub row-sum : neighboursIn v n ps i m ≡ howMany (neighbourIn v n ps i m) (part w (14 * n + s .«from») (s .to - s .«from»)) + howMany (neighbourIn v n ps i m) (part w (14 * n + 0) (s .rest - 0))
     unfolding neighboursIn foundIn pairAt

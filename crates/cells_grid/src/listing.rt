@@ -165,37 +165,18 @@ fn list_row(
 {
     let size = BUCKETS * k - 1;
     let s = blocks::stretch_at(work, ENDS * n, blocks::bucket(h, along, size), size);
-    let more = list_stretch(
-        points,
-        v,
-        n,
-        work,
-        i,
-        first,
-        r,
-        s.from,
-        s.to,
-        m,
-        marks,
-        mark,
-    );
-    if s.rest == 0 {
-        return more;
+    let mut from = s.from;
+    let mut to = s.to;
+    let mut rest = s.rest;
+    let mut more = m;
+    // One place of call for both stretches: the compiler then puts it in line. (What ends at 0 is empty, and so is its rest.)
+    while to > 0 {
+        more = list_stretch(points, v, n, work, i, first, r, from, to, more, marks, mark);
+        from = 0;
+        to = rest;
+        rest = 0;
     }
-    list_stretch(
-        points,
-        v,
-        n,
-        work,
-        i,
-        first,
-        r,
-        0,
-        s.rest,
-        more,
-        marks,
-        mark,
-    )
+    more
 }
 
 // Writes the core cells that cell c lists and whose word from `marks` on is not `mark`, from 15n on. Returns how many there are.
