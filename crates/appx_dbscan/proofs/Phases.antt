@@ -45,16 +45,13 @@ kind-low g i = by (core g i) (touched g i)
     by true cs = omega arith
     by false cs = border cs
 
--- what `populate` needs of the fourteen words a frame that are clear, and what the phases after it need
+-- what `populate` needs of the fourteen words a frame that are clear
 pub clear-populate : (n : ℕ) (w : List ℕ) → Clear w (10 * n) (14 * n) → Clear w (10 * n) (3 * n) × Clear w (16 * n) (8 * n)
 clear-populate n w c = (clear-within w (10 * n) (14 * n) (10 * n) (3 * n) c (omega arith) (omega arith), clear-within w (10 * n) (14 * n) (16 * n) (8 * n) c (omega arith) (omega arith))
 
-pub clear-later : (n : ℕ) (w : List ℕ) → Clear w (10 * n) (14 * n) → Clear w (10 * n) (6 * n)
-clear-later n w c = clear-within w (10 * n) (14 * n) (10 * n) (6 * n) c (omega arith) (omega arith)
-
--- three of the six words a frame that are clear
-few-clear : (n : ℕ) (w : List ℕ) → Clear w (10 * n) (6 * n) → Clear w (10 * n) (3 * n)
-few-clear n w c = clear-within w (10 * n) (6 * n) (10 * n) (3 * n) c (omega arith) (omega arith)
+-- the first of the fourteen
+first-clear : (n k : ℕ) (w : List ℕ) → k ≤ 14 * n → Clear w (10 * n) (14 * n) → Clear w (10 * n) k
+first-clear n k w h c = clear-within w (10 * n) (14 * n) (10 * n) k c (omega arith) (omega arith)
 
 -- a run may be made on the frames, and w are the words before it
 module _ {ps : List ℤ} {v : ValidParams} {n : ℕ} (r : Ready ps v n) (w : List ℕ) (room : workWords n (v .s) ≤ length w) where
@@ -95,8 +92,8 @@ module _ {ps : List ℤ} {v : ValidParams} {n : ℕ} (r : Ready ps v n) (w : Lis
   populated-within : Within (4 * n) w (populated g w)
   populated-within = subst (λ (f : ℕ). Within (4 * f) w (populated g w)) e (ArrangementLaws.populated-within g L w (omega (arith, e)))
 
-  clear-after-populate : Clear w (10 * n) (6 * n) → Clear (populated g w) (10 * n) (6 * n)
-  clear-after-populate = within-clear populated-within (10 * n) (6 * n) (omega arith)
+  clear-after-populate : Clear w (10 * n) (14 * n) → Clear (populated g w) (10 * n) (14 * n)
+  clear-after-populate = within-clear populated-within (10 * n) (14 * n) (omega arith)
 
   after-populate : Arranged g k (populated g w)
   after-populate = populated-arranged g L w (omega (arith, e))
@@ -108,8 +105,8 @@ module _ {ps : List ℤ} {v : ValidParams} {n : ℕ} (r : Ready ps v n) (w : Lis
   after-label-points : Cored g k (over (populated g w) (4 * n) cores)
   after-label-points = cored g after-populate n e (omega (arith, populated-within .size))
 
-  clear-after-label-points : Clear w (10 * n) (6 * n) → Clear (over (populated g w) (4 * n) cores) (10 * n) (6 * n)
-  clear-after-label-points = within-clear cored-within (10 * n) (6 * n) (omega arith)
+  clear-after-label-points : Clear w (10 * n) (14 * n) → Clear (over (populated g w) (4 * n) cores) (10 * n) (14 * n)
+  clear-after-label-points = within-clear cored-within (10 * n) (14 * n) (omega arith)
 
   -- ---- `build_trees`
   treed-within : Within m w (treed g n w)
@@ -119,14 +116,14 @@ module _ {ps : List ℤ} {v : ValidParams} {n : ℕ} (r : Ready ps v n) (w : Lis
       (5 * n) (column (treeWord g paths) k) (omega (arith, few, length-numbers (treeWord g paths) k)) room)
       (16 * n) (forestTo g paths k) nodes-room room
 
-  clear-after-build-trees : Clear w (10 * n) (6 * n) → Clear (treed g n w) (10 * n) (6 * n)
+  clear-after-build-trees : Clear w (10 * n) (14 * n) → Clear (treed g n w) (10 * n) (6 * n)
   unfolding treed
   clear-after-build-trees c =
       let trees = column (treeWord g paths) k in
       let cored = over (populated g w) (4 * n) cores in
       let l = length-numbers (treeWord g paths) k in
       clear-before (over cored (5 * n) trees) (10 * n) (6 * n) (16 * n) (forestTo g paths k) (omega (arith, few, cored-within .size, over-length cored (5 * n) trees (omega (arith, few, cored-within .size)))) (omega arith)
-      (clear-after cored (10 * n) (6 * n) (5 * n) trees (omega (arith, cored-within .size)) (omega (arith, few)) (clear-after-label-points c))
+      (clear-after cored (10 * n) (6 * n) (5 * n) trees (omega (arith, cored-within .size)) (omega (arith, few)) (first-clear n (6 * n) cored (omega arith) (clear-after-label-points c)))
 
   after-build-trees : Grown g k (treed g n w)
   unfolding treed
@@ -182,7 +179,7 @@ module _ {ps : List ℤ} {v : ValidParams} {n : ℕ} (r : Ready ps v n) (w : Lis
     pub arranged₁ : Arranged g k₁ w₁
     arranged₁ = rw (p, e₁) after-populate
 
-    pub clear₁ : Clear w (10 * n) (6 * n) → Clear w₁ (10 * n) (6 * n)
+    pub clear₁ : Clear w (10 * n) (14 * n) → Clear w₁ (10 * n) (14 * n)
     clear₁ c = rw e₁ (clear-after-populate c)
 
     module _ {w₂ : List ℕ} (e₂ : w₂ ≡ over w₁ (4 * n) cores) where
@@ -192,8 +189,8 @@ module _ {ps : List ℤ} {v : ValidParams} {n : ℕ} (r : Ready ps v n) (w : Lis
       pub cored₂ : Cored g k₁ w₂
       cored₂ = rw (p, same₂) after-label-points
 
-      pub clear₂ : Clear w (10 * n) (6 * n) → Clear w₂ (10 * n) (3 * n)
-      clear₂ c = rw same₂ (few-clear n (over (populated g w) (4 * n) cores) (clear-after-label-points c))
+      pub clear₂ : Clear w (10 * n) (14 * n) → Clear w₂ (10 * n) (3 * n)
+      clear₂ c = rw same₂ (first-clear n (3 * n) (over (populated g w) (4 * n) cores) (omega arith) (clear-after-label-points c))
 
       module _ {w₃ : List ℕ} (e₃ : w₃ ≡ over (over w₂ (5 * n) (column (treeWord g paths) k₁)) (16 * n) (forestTo g paths k₁)) where
         same₃ : w₃ ≡ treed g n w
@@ -203,7 +200,7 @@ module _ {ps : List ℤ} {v : ValidParams} {n : ℕ} (r : Ready ps v n) (w : Lis
         pub grown₃ : Grown g k₁ w₃
         grown₃ = rw (p, same₃) after-build-trees
 
-        pub clear₃ : Clear w (10 * n) (6 * n) → Clear w₃ (10 * n) (6 * n)
+        pub clear₃ : Clear w (10 * n) (14 * n) → Clear w₃ (10 * n) (6 * n)
         clear₃ c = rw same₃ (clear-after-build-trees c)
 
         pub filled₄ : {w₄ : List ℕ}

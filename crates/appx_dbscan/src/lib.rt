@@ -23,7 +23,7 @@ ghost use Rattle.appx_dbscan.specs.Transform.{transformOf, outcomeOf, la
 ghost use Rattle.appx_dbscan.specs.Promise.{Promise};
 ghost use Rattle.appx_dbscan.specs.Filled.{filled};
 
-// What the phases need cleared, from 10n on: six words a frame, which each leaves so, and for the first of them eight more, where the nodes stand later.
+// What the phases need cleared, from 10n on: six words a frame, which each leaves so, and for the first two of them eight more, where the nodes stand later.
 const SCRATCH: usize = 10;
 
 const SCRATCH_WORDS: usize = 14;

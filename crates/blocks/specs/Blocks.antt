@@ -85,10 +85,10 @@ stretchIn w ends b size = cond (ltb (b + 1) size)
     record { «from» = beginIn w ends b; to = beginIn w ends (b + 1 + 1); rest = 0 }
     record { «from» = beginIn w ends b; to = beginIn w ends (b + 1); rest = beginIn w ends 1 }
 
--- the words w with m numbers sorted by key: from 10n where those of each of 4 × m keys end, from 14n the numbers
-unfoldable pub sortedBy : (ℕ → ℕ) → (m n : ℕ) → List ℕ → List ℕ
+-- the words w with m numbers sorted by one of `size` keys: from `ends` where those of each key end, from 14n the numbers
+unfoldable pub sortedBy : (ℕ → ℕ) → (m size ends n : ℕ) → List ℕ → List ℕ
 unfolding startOf placesOf
-sortedBy key m n w = over (over w (14 * n) (placesOf key m (4 * m))) (10 * n) (column (λ b. startOf key m (b + 1)) (4 * m))
+sortedBy key m size ends n w = over (over w (14 * n) (placesOf key m size)) ends (column (λ b. startOf key m (b + 1)) size)
 
 -- n frames of the points
 module _ (reach : ℕ) (v : ValidParams) (n : ℕ) (ps : List ℤ) where
@@ -104,29 +104,33 @@ module _ (reach : ℕ) (v : ValidParams) (n : ℕ) (ps : List ℤ) where
   abbrev pub rowAround : ℕ → ℕ → List ℕ
   rowAround i r = shifted (width reach) (edgesOf (width reach) reach (drop 1 (frameAt i))) r
 
-  -- ---- m numbers, of which x stands for frame `at x`, those that pass p by buckets
-  module _ (m : ℕ) (at : ℕ → ℕ) (p : ℕ → Bool) where
-    -- of 4 × m - 1 buckets that of number x, if it passes p; else one more
-    unfoldable pub keyFor : ℕ → ℕ
-    unfolding bucketOf
-    keyFor x = cond (p x) (bucketOf (width reach) (4 * m - 1) (frameAt (at x))) (4 * m - 1)
-
+  -- ---- `size` buckets
+  module _ (size : ℕ) where
     -- the first of the two buckets in which the blocks of row r around frame i fall
     unfoldable pub bucketAround : ℕ → ℕ → ℕ
     unfolding bucketAt rowHash
-    bucketAround i r = bucketAt (4 * m - 1) (rowHash (rowAround i r)) ((raise (getD (frameAt i) 0 (pos 0)) - reach) / width reach)
+    bucketAround i r = bucketAt size (rowHash (rowAround i r)) ((raise (getD (frameAt i) 0 (pos 0)) - reach) / width reach)
 
-    -- the numbers in bucket b and in the next one
-    unfoldable pub pairAt : ℕ → List ℕ
-    unfolding numbered keyFor
-    pairAt b = numbered keyFor m b ++ numbered keyFor m ((b + 1) % (4 * m - 1))
+    -- ---- numbers, of which x stands for frame `at x`, those that pass p by buckets
+    module _ (at : ℕ → ℕ) (p : ℕ → Bool) where
+      -- the bucket of number x, if it passes p; else one more
+      unfoldable pub keyFor : ℕ → ℕ
+      unfolding bucketOf
+      keyFor x = cond (p x) (bucketOf (width reach) size (frameAt (at x))) size
 
-    -- those that pass f in row r around frame i, as a search finds them
-    unfoldable pub foundIn : ℕ → (ℕ → Bool) → ℕ → List ℕ
-    unfolding pairAt bucketAround
-    foundIn i f r = keep (λ x. sameNats (rowOf (at x)) (rowAround i r) && f x) (pairAt (bucketAround i r))
+      -- ---- m of them
+      module _ (m : ℕ) where
+        -- the numbers in bucket b and in the next one
+        unfoldable pub pairAt : ℕ → List ℕ
+        unfolding numbered keyFor
+        pairAt b = numbered keyFor m b ++ numbered keyFor m ((b + 1) % size)
 
-    -- those that pass f around frame i, row by row
-    unfoldable pub found : ℕ → (ℕ → Bool) → List ℕ
-    unfolding foundIn
-    found i f = concat (column (foundIn i f) (2 ^ (v .channels - 1)))
+        -- those that pass f in row r around frame i, as a search finds them
+        unfoldable pub foundIn : ℕ → (ℕ → Bool) → ℕ → List ℕ
+        unfolding pairAt bucketAround
+        foundIn i f r = keep (λ x. sameNats (rowOf (at x)) (rowAround i r) && f x) (pairAt (bucketAround i r))
+
+        -- those that pass f around frame i, row by row
+        unfoldable pub found : ℕ → (ℕ → Bool) → List ℕ
+        unfolding foundIn
+        found i f = concat (column (foundIn i f) (2 ^ (v .channels - 1)))

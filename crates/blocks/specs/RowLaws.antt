@@ -86,6 +86,44 @@ next-other b size h k e = elim (decLt (b + 1) size) [
       omega (arith, e, ap (λ (z : ℕ). z % size) q, mod-self size)
 ]
 
+-- ---- the buckets of numbers
+module _ (reach : ℕ) (v : ValidParams) (n : ℕ) (ps : List ℤ) (size : ℕ) (least : 0 < size) where
+  pub around-low : (i r : ℕ) → bucketAround reach v n ps size i r < size
+  unfolding bucketAround
+  around-low i r = bucket-low size (rowHash (rowAround reach v n ps i r)) ((raise (getD (frameAt reach v n ps i) 0 (pos 0)) - reach) / width reach) least
+
+  module _ (at : ℕ → ℕ) (p : ℕ → Bool) (x : ℕ) where
+    abbrev own : ℕ
+    own = bucketOf (width reach) size (frameAt reach v n ps (at x))
+
+    key-passed : T (p x) → keyFor reach v n ps size at p x ≡ bucketOf (width reach) size (frameAt reach v n ps (at x))
+    unfolding keyFor
+    key-passed t = ap (λ (b : Bool). cond b own size) (T-true (p x) t)
+
+    key-failed : p x ≡ false → keyFor reach v n ps size at p x ≡ size
+    unfolding keyFor
+    key-failed e = ap (λ (b : Bool). cond b own size) e
+
+    own-low : own < size
+    unfolding bucketOf
+    own-low = bucket-low size (rowHash (rowOf reach v n ps (at x))) (raise (getD (frameAt reach v n ps (at x)) 0 (pos 0)) / width reach) least
+
+    -- there is one key more than there are buckets
+    pub key-below : keyFor reach v n ps size at p x < size + 1
+    key-below = go (p x) refl
+      where
+        go : (b : Bool) → p x ≡ b → keyFor reach v n ps size at p x < size + 1
+        go true e = omega (arith, key-passed (true-T e), own-low)
+        go false e = omega (arith, key-failed e)
+
+    -- a number with a bucket passes
+    key-passes : keyFor reach v n ps size at p x < size → T (p x)
+    key-passes l = go (p x) refl
+      where
+        go : (b : Bool) → p x ≡ b → T (p x)
+        go true e = true-T e
+        go false e = absurd (omega (arith, key-failed e))
+
 -- ---- the numbers around a frame
 module _ (reach : ℕ) (v : ValidParams) (n : ℕ) (ps : List ℤ) (room : n * v .channels ≤ length ps) (some : 1 ≤ v .channels) where
   abbrev F : ℕ → Frame
@@ -109,59 +147,27 @@ module _ (reach : ℕ) (v : ValidParams) (n : ℕ) (ps : List ℤ) (room : n * v
   near-within : (i j : ℕ) → i < n → j < n → squared (F i) (F j) ≤ reach * reach → Within reach (F i) (F j)
   near-within i j h k q = within-of reach (F i) (F j) (long i h ∙ sym (long j k)) q
 
-  module _ (m : ℕ) (at : ℕ → ℕ) (p : ℕ → Bool) (least : 0 < m) (inside : (x : ℕ) → x < m → at x < n) where
-    abbrev S : ℕ
-    S = 4 * m - 1
-
-    key-passed : (x : ℕ) → T (p x) → keyFor reach v n ps m at p x ≡ bucketOf (width reach) S (F (at x))
-    unfolding keyFor
-    key-passed x t = ap (λ (b : Bool). cond b (bucketOf (width reach) S (F (at x))) S) (T-true (p x) t)
-
-    key-failed : (x : ℕ) → p x ≡ false → keyFor reach v n ps m at p x ≡ S
-    unfolding keyFor
-    key-failed x e = ap (λ (b : Bool). cond b (bucketOf (width reach) S (F (at x))) S) e
-
-    bucket-of-low : (x : ℕ) → bucketOf (width reach) S (F (at x)) < S
-    unfolding bucketOf
-    bucket-of-low x = bucket-low S (rowHash (rowOf reach v n ps (at x))) (raise (getD (F (at x)) 0 (pos 0)) / width reach) (omega arith)
-
-    -- a key is below 4 × m
-    pub key-below : (x : ℕ) → keyFor reach v n ps m at p x < 4 * m
-    key-below x = go (p x) refl
-      where
-        go : (b : Bool) → p x ≡ b → keyFor reach v n ps m at p x < 4 * m
-        go true e = omega (arith, key-passed x (true-T e), bucket-of-low x)
-        go false e = omega (arith, key-failed x e)
-
-    -- a number with a bucket passes
-    key-passes : (x : ℕ) → keyFor reach v n ps m at p x < S → T (p x)
-    key-passes x l = go (p x) refl
-      where
-        go : (b : Bool) → p x ≡ b → T (p x)
-        go true e = true-T e
-        go false e = absurd (omega (arith, key-failed x e))
+  module _ (size : ℕ) (at : ℕ → ℕ) (p : ℕ → Bool) (m : ℕ) (several : 1 < size) (inside : (x : ℕ) → x < m → at x < n) where
+    least : 0 < size
+    least = omega arith
 
     module _ (i : ℕ) (h : i < n) where
       abbrev B : ℕ → ℕ
-      B r = bucketAround reach v n ps m at p i r
-
-      pub around-low : (r : ℕ) → bucketAround reach v n ps m at p i r < 4 * m - 1
-      unfolding bucketAround
-      around-low r = bucket-low S (rowHash (rowAround reach v n ps i r)) ((raise (getD (F i) 0 (pos 0)) - reach) / width reach) (omega arith)
+      B r = bucketAround reach v n ps size i r
 
       -- a number within the reach and in row r has the bucket of the row, or the next
       key-near : (r x : ℕ) → x < m → T (p x) → squared (F i) (F (at x)) ≤ reach * reach → rowOf reach v n ps (at x) ≡ rowAround reach v n ps i r
-          → (keyFor reach v n ps m at p x ≡ B r) ⊎ (keyFor reach v n ps m at p x ≡ (B r + 1) % S)
+          → (keyFor reach v n ps size at p x ≡ B r) ⊎ (keyFor reach v n ps size at p x ≡ (B r + 1) % size)
       unfolding bucketOf bucketAround
       key-near r x l t q e =
           let w = width reach in
           let z = apart-first (F i) (F (at x)) (omega (arith, long i h)) (near-within i (at x) h (inside x l) q) .0 in
           let a = (raise (getD (F i) 0 (pos 0)) - reach) / w in
-          let k : keyFor reach v n ps m at p x ≡ bucketAt S (rowHash (rowAround reach v n ps i r)) (raise (getD (F (at x)) 0 (pos 0)) / w) =
-          key-passed x t ∙ ap (λ (y : List ℕ). bucketAt S (rowHash y) (raise (getD (F (at x)) 0 (pos 0)) / w)) e in
+          let k : keyFor reach v n ps size at p x ≡ bucketAt size (rowHash (rowAround reach v n ps i r)) (raise (getD (F (at x)) 0 (pos 0)) / w) =
+          key-passed reach v n ps size least at p x t ∙ ap (λ (y : List ℕ). bucketAt size (rowHash y) (raise (getD (F (at x)) 0 (pos 0)) / w)) e in
           elim (two-along reach (raise (getD (F i) 0 (pos 0))) (raise (getD (F (at x)) 0 (pos 0))) z) [
-            | inl d ↦ inl (k ∙ ap (bucketAt S (rowHash (rowAround reach v n ps i r))) d)
-            | inr d ↦ inr (k ∙ ap (bucketAt S (rowHash (rowAround reach v n ps i r))) d ∙ bucket-next S (rowHash (rowAround reach v n ps i r)) a)
+            | inl d ↦ inl (k ∙ ap (bucketAt size (rowHash (rowAround reach v n ps i r))) d)
+            | inr d ↦ inr (k ∙ ap (bucketAt size (rowHash (rowAround reach v n ps i r))) d ∙ bucket-next size (rowHash (rowAround reach v n ps i r)) a)
           ]
 
       module _ (f : ℕ → Bool) (near : (x : ℕ) → x < m → T (p x) → T (f x) → squared (F i) (F (at x)) ≤ reach * reach) where
@@ -169,33 +175,33 @@ module _ (reach : ℕ) (v : ValidParams) (n : ℕ) (ps : List ℤ) (room : n * v
         P x = p x && f x
 
         abbrev key : ℕ → ℕ
-        key = keyFor reach v n ps m at p
+        key = keyFor reach v n ps size at p
 
         abbrev K : ℕ → ℕ → Bool
         K r x = sameNats (rowOf reach v n ps (at x)) (rowAround reach v n ps i r)
 
-        has : (x b : ℕ) → In x (numbered key m b) → b < S → key x < S
+        has : (x b : ℕ) → In x (numbered key m b) → b < size → key x < size
         unfolding numbered
         has x b j l = omega (arith, eqb→eq (key x) b (in-keep (λ y. eqb (key y) b) x (numbers m) j .1))
 
         -- those found in a row are all in it
-        row-all : (r : ℕ) → List·Permᴰ (foundIn reach v n ps m at p i f r) (keep (λ x. K r x && P x) (numbers m))
+        row-all : (r : ℕ) → List·Permᴰ (foundIn reach v n ps size at p m i f r) (keep (λ x. K r x && P x) (numbers m))
         unfolding foundIn pairAt
         row-all r =
             subst (λ (l : List ℕ). List·Permᴰ l (keep (λ x. K r x && P x) (numbers m)))
-            (sym (keep-same (λ x. K r x && f x) (λ x. K r x && P x) (numbered key m (B r) ++ numbered key m ((B r + 1) % S)) (λ x j. ap (λ (b : Bool). K r x && b) (passed x (key-passes x (bucketed x j))))))
-            (two-keys key m (B r) ((B r + 1) % S) (λ x. K r x && P x) (next-other (B r) S (around-low r) (omega arith)) one)
+            (sym (keep-same (λ x. K r x && f x) (λ x. K r x && P x) (numbered key m (B r) ++ numbered key m ((B r + 1) % size)) (λ x j. ap (λ (b : Bool). K r x && b) (passed x (key-passes reach v n ps size least at p x (bucketed x j))))))
+            (two-keys key m (B r) ((B r + 1) % size) (λ x. K r x && P x) (next-other (B r) size (around-low reach v n ps size least i r) several) one)
           where
             passed : (x : ℕ) → T (p x) → f x ≡ p x && f x
             passed x t = sym (ap (λ (b : Bool). b && f x) (T-true (p x) t))
 
-            bucketed : (x : ℕ) → In x (numbered key m (B r) ++ numbered key m ((B r + 1) % S)) → key x < S
-            bucketed x j = elim (in-append x (numbered key m (B r)) (numbered key m ((B r + 1) % S)) j) [
-              | inl a ↦ has x (B r) a (around-low r)
-              | inr a ↦ has x ((B r + 1) % S) a (mod-lt (B r + 1) (omega arith))
+            bucketed : (x : ℕ) → In x (numbered key m (B r) ++ numbered key m ((B r + 1) % size)) → key x < size
+            bucketed x j = elim (in-append x (numbered key m (B r)) (numbered key m ((B r + 1) % size)) j) [
+              | inl a ↦ has x (B r) a (around-low reach v n ps size least i r)
+              | inr a ↦ has x ((B r + 1) % size) a (mod-lt (B r + 1) least)
             ]
 
-            one : (x : ℕ) → x < m → T (K r x && P x) → (key x ≡ B r) ⊎ (key x ≡ (B r + 1) % S)
+            one : (x : ℕ) → x < m → T (K r x && P x) → (key x ≡ B r) ⊎ (key x ≡ (B r + 1) % size)
             one x l t =
                 let s = and-right (K r x) (P x) t in
                 key-near r x l (and-left (p x) (f x) s) (near x l (and-left (p x) (f x) s) (and-right (p x) (f x) s)) (same-nats (rowOf reach v n ps (at x)) (rowAround reach v n ps i r) (and-left (K r x) (P x) t))
@@ -207,12 +213,12 @@ module _ (reach : ℕ) (v : ValidParams) (n : ℕ) (ps : List ℤ) (room : n * v
             which-is reach (drop 1 (F i)) (drop 1 (F (at x))) r (apart-first (F i) (F (at x)) (omega (arith, long i h)) s .1) (subst (λ (d : ℕ). r < 2 ^ d) (sym (rest-long i h)) k)
 
         -- all that pass, each once
-        pub found-order : List·Permᴰ (found reach v n ps m at p i f) (keep (λ x. p x && f x) (numbers m))
+        pub found-order : List·Permᴰ (found reach v n ps size at p m i f) (keep (λ x. p x && f x) (numbers m))
         unfolding found
         found-order =
             List·Permᴰ·trans
-            (concat-perm (foundIn reach v n ps m at p i f) (λ r. keep (λ x. P x && eqb (which reach (drop 1 (F i)) (drop 1 (F (at x)))) r) (numbers m)) (numbers R)
-            (λ r k. subst (List·Permᴰ (foundIn reach v n ps m at p i f r))
+            (concat-perm (foundIn reach v n ps size at p m i f) (λ r. keep (λ x. P x && eqb (which reach (drop 1 (F i)) (drop 1 (F (at x)))) r) (numbers m)) (numbers R)
+            (λ r k. subst (List·Permᴰ (foundIn reach v n ps size at p m i f r))
             (keep-same (λ x. K r x && P x) (λ x. P x && eqb (which reach (drop 1 (F i)) (drop 1 (F (at x)))) r) (numbers m) (λ x j. turn (K r x) (eqb (which reach (drop 1 (F i)) (drop 1 (F (at x)))) r) (P x) (λ t. in-one x r (in-numbers m x j) t (in-numbers R r k))))
             (row-all r)))
             (by-values (λ x. which reach (drop 1 (F i)) (drop 1 (F (at x)))) P (numbers R) (numbers m) (numbers-ascending R)

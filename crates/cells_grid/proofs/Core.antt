@@ -4,6 +4,7 @@ use mathlib.Core.Logic.{inl, inr}
 use mathlib.Core.Bool.{Bool, true, false, not, cond}
 use mathlib.Core.List.{List}
 use Prim.Native.Nat.{ℕ, _+_, _-_, _*_, _<_, _≤_}
+use native.Mathlib.Nat.{le-refl}
 use native.Mathlib.Decide.{decLt}
 use native.Mathlib.Omega.{arith}
 use lib.IntN.{ℤ}
@@ -12,7 +13,7 @@ use lib.ListN.{length, getD, replicate}
 use borrow.Author.Tests.{le-leb, lt-leb}
 use Rattle.lists.specs.Lists.{numbers, any, howMany}
 use Rattle.lists.specs.ListLaws.{true-T, T-true, T-or-not, not-turn, any-in, any-none, map-same, numbers-in, in-numbers, length-numbers}
-use Rattle.lists.specs.Words.{over, column, Clear}
+use Rattle.lists.specs.Words.{over, column, Clear, Apart}
 use Rattle.lists.specs.WordLaws.{over-length}
 use Rattle.lists.specs.PartLaws.{column-replicate, clear-after, clear-within}
 use Rattle.lists.specs.LoopLaws.{Fill, fill-start, fill-length, fill-end}
@@ -26,9 +27,10 @@ use Rattle.cells_grid.specs.Places.{endIn}
 use Rattle.cells_grid.specs.Ready.{ready-lawful}
 use Rattle.cells_grid.specs.ArrangementLaws.{number-below, members-number, words-count, words-room, number-word, cell-size, arranged-over}
 use Rattle.lists.specs.Sorting.{startOf, placesOf, keyIn, Sortable, Sorted}
+use Rattle.lists.specs.SortLaws.{sorted-over}
 use Rattle.blocks.specs.Blocks.{width, bucketOf, frameAt, keyFor, sortedBy}
 use Rattle.blocks.specs.RowLaws.{key-below}
-use Rattle.blocks.specs.SortedLaws.{places-long, sorted-length, sorted-after, sorted-under, sorted-cleared, sorted-kept, can-sort, keys-cleared}
+use Rattle.blocks.specs.SortedLaws.{places-long, sorted-length, sorted-after, sorted-under, sorted-cleared, can-sort, keys-cleared}
 use Rattle.cells_grid.specs.Crowding.{itself, every, frameKey}
 
 -- the count of the cells is that of the definition
@@ -138,26 +140,35 @@ module _ {ps : List ℤ} {v : ValidParams} {n k : ℕ} {w : List ℕ} (r : Ready
         | inr d ↦ absurd (subst T (not-turn (any sparse (numbers k)) true (sym e ∙ t)) (any-in sparse c (numbers k) (numbers-in k c h) d))
       ]
 
+-- ---- frames by bucket: where those of each end stands after the frames and their keys
+module _ (v : ValidParams) (n : ℕ) (ps : List ℤ) where
+  key-low : (i : ℕ) → i < n → frameKey v n ps i < 8 * n
+  key-low i l = omega (arith, key-below (v .t) v n ps (8 * n - 1) (omega arith) itself every i)
+
+  pub frame-key : (j : ℕ) {b s : ℕ} → s ≡ width (v .t) → b ≡ bucketOf s (8 * n - 1) (frameAt (v .t) v n ps j) → b ≡ frameKey v n ps j
+  unfolding keyFor
+  frame-key j d q = q ∙ ap (λ (s : ℕ). bucketOf s (8 * n - 1) (frameAt (v .t) v n ps j)) d
+
+behind : (n : ℕ) → Apart (14 * n) (2 * n) (16 * n) (8 * n)
+behind n = inl (omega arith)
+
 -- ---- core frames are written between the arrangement and the sorted frames
 module _ {ps : List ℤ} {v : ValidParams} {n k : ℕ} (w₀ : List ℕ)
-    (p : Ready ps v n × Arranged (geometryAt v n ps) k w₀ × (16 * n ≤ length w₀) × Clear w₀ (10 * n) (6 * n)) where
-  pub label-hash : Ready ps v n × (16 * n ≤ length w₀) × Clear w₀ (10 * n) (6 * n)
-  label-hash = (p .0, p .2, p .3)
+    (p : Ready ps v n × Arranged (geometryAt v n ps) k w₀ × (24 * n ≤ length w₀) × Clear w₀ (10 * n) (14 * n)) where
+  scratch : Clear w₀ (14 * n) (10 * n)
+  scratch = clear-within w₀ (10 * n) (14 * n) (14 * n) (10 * n) (p .3) (omega arith) (omega arith)
 
-  key-low : (i : ℕ) → i < n → frameKey v n ps i < 4 * n
-  key-low i l = key-below (v .t) v n ps (p .0 .room) (p .0 .settings .scale .some) n itself every (omega arith) (λ x l. l) i
+  pub label-hash : Ready ps v n × (24 * n ≤ length w₀) × Clear w₀ (14 * n) (10 * n)
+  label-hash = (p .0, p .2, scratch)
 
-  all : n ≤ n
-  all = omega arith
+  H : length (sortedBy (frameKey v n ps) n (8 * n) (16 * n) n w₀) ≡ length w₀
+  H = sorted-length (frameKey v n ps) n (8 * n) (16 * n) n (le-refl n) (behind n) (key-low v n ps) w₀ (omega (arith, p .2)) (omega (arith, p .2))
 
-  H : length (sortedBy (frameKey v n ps) n n w₀) ≡ length w₀
-  H = sorted-length (frameKey v n ps) n n all key-low w₀ (p .2)
-
-  pub label-start : {h : List ℕ} → h ≡ sortedBy (frameKey v n ps) n n w₀ → Fill (coreBit (geometryAt v n ps)) h (4 * n) n h 0
+  pub label-start : {h : List ℕ} → h ≡ sortedBy (frameKey v n ps) n (8 * n) (16 * n) n w₀ → Fill (coreBit (geometryAt v n ps)) h (4 * n) n h 0
   label-start e = fill-start (omega (arith, ap length e, H, p .2))
 
-  module _ {h : List ℕ} (e : h ≡ sortedBy (frameKey v n ps) n n w₀) {w : List ℕ} {i : ℕ} (G : Fill (coreBit (geometryAt v n ps)) h (4 * n) n w i) where
-    F : Fill (coreBit (geometryAt v n ps)) (sortedBy (frameKey v n ps) n n w₀) (4 * n) n w i
+  module _ {h : List ℕ} (e : h ≡ sortedBy (frameKey v n ps) n (8 * n) (16 * n) n w₀) {w : List ℕ} {i : ℕ} (G : Fill (coreBit (geometryAt v n ps)) h (4 * n) n w i) where
+    F : Fill (coreBit (geometryAt v n ps)) (sortedBy (frameKey v n ps) n (8 * n) (16 * n) n w₀) (4 * n) n w i
     F = subst (λ (z : List ℕ). Fill (coreBit (geometryAt v n ps)) z (4 * n) n w i) e G
 
     abbrev C : List ℕ
@@ -171,42 +182,39 @@ module _ {ps : List ℤ} {v : ValidParams} {n k : ℕ} (w₀ : List ℕ)
     label-arranged =
         let g = geometryAt v n ps in
         let f = at-frames v n ps in
-        let P : List ℕ = placesOf (frameKey v n ps) n (4 * n) in
+        let P : List ℕ = placesOf (frameKey v n ps) n (8 * n) in
         let u : List ℕ = over w₀ (14 * n) P in
-        let lu : length u ≡ length w₀ = over-length w₀ (14 * n) P (omega (arith, p .2, places-long (frameKey v n ps) n n all key-low)) in
+        let lu : length u ≡ length w₀ = over-length w₀ (14 * n) P (omega (arith, p .2, places-long (frameKey v n ps) n (8 * n) (16 * n) n (le-refl n) (behind n) (key-low v n ps))) in
         subst (Arranged g k) (sym (F .work))
         (arranged-over g (4 * n) C (omega arith) (omega (arith, p .2, H))
-        (arranged-over g (10 * n) (column (λ b. startOf (frameKey v n ps) n (b + 1)) (4 * n)) (omega arith) (omega (arith, p .2))
+        (arranged-over g (16 * n) (column (λ b. startOf (frameKey v n ps) n (b + 1)) (8 * n)) (omega arith) (omega (arith, p .2))
         (arranged-over g (14 * n) P (omega arith) (omega (arith, p .2)) (p .1))))
 
-    pub label-sorted : Sorted (frameKey v n ps) n (4 * n) (10 * n) (14 * n) w
-    label-sorted = subst (Sorted (frameKey v n ps) n (4 * n) (10 * n) (14 * n)) (sym (F .work))
-        (sorted-kept (4 * n) C all (omega (arith, p .2, H)) (inl (omega (arith, length-numbers (coreBit (geometryAt v n ps)) i, F .high))) (sorted-after (frameKey v n ps) n n all key-low w₀ (p .2)))
+    pub label-sorted : Sorted (frameKey v n ps) n (8 * n) (16 * n) (14 * n) w
+    label-sorted =
+        let l : length C ≤ n = omega (arith, length-numbers (coreBit (geometryAt v n ps)) i, F .high) in
+        subst (Sorted (frameKey v n ps) n (8 * n) (16 * n) (14 * n)) (sym (F .work))
+        (sorted-over (sorted-after (frameKey v n ps) n (8 * n) (16 * n) n (le-refl n) (behind n) (key-low v n ps) w₀ (omega (arith, p .2)) (omega (arith, p .2))) (4 * n) C (inr (omega arith)) (inr (omega arith)) (omega (arith, p .2, H)))
 
-    pub label-end : n ≤ i → over w (10 * n) (replicate (5 * n) 0) ≡ over w₀ (4 * n) (column (coreBit (geometryAt v n ps)) n)
+    pub label-end : n ≤ i → over w (14 * n) (replicate (10 * n) 0) ≡ over w₀ (4 * n) (column (coreBit (geometryAt v n ps)) n)
     label-end h =
+        let key = frameKey v n ps in
         let D : List ℕ = column (coreBit (geometryAt v n ps)) n in
         let d : length D ≡ n = length-numbers (coreBit (geometryAt v n ps)) n in
         let l : length (over w₀ (4 * n) D) ≡ length w₀ = over-length w₀ (4 * n) D (omega (arith, p .2)) in
-        ap (λ (z : List ℕ). over z (10 * n) (replicate (5 * n) 0)) (fill-end F h ∙ sorted-under (frameKey v n ps) n n all key-low w₀ (p .2) (4 * n) D (omega arith))
-        ∙ sorted-cleared (frameKey v n ps) n n all key-low (over w₀ (4 * n) D) (omega (arith, p .2))
-        (clear-after w₀ (10 * n) (5 * n) (4 * n) D (omega (arith, p .2)) (omega arith) (clear-within w₀ (10 * n) (6 * n) (10 * n) (5 * n) (p .3) (omega arith) (omega arith)))
+        ap (λ (z : List ℕ). over z (14 * n) (replicate (10 * n) 0)) (fill-end F h ∙ sorted-under key n (8 * n) (16 * n) n (le-refl n) (behind n) (key-low v n ps) w₀ (omega (arith, p .2)) (omega (arith, p .2)) (4 * n) D (omega arith) (omega arith))
+        ∙ sorted-cleared key n (8 * n) (16 * n) n (le-refl n) (behind n) (key-low v n ps) (over w₀ (4 * n) D) (omega (arith, p .2)) (omega (arith, p .2)) (14 * n) (10 * n) (omega arith) (omega arith) (omega arith) (omega arith) (omega (arith, p .2))
+        (clear-after w₀ (14 * n) (10 * n) (4 * n) D (omega (arith, p .2)) (omega arith) scratch)
 
 -- ---- all frames are sorted: their keys are written, then they are sorted, then the keys are cleared
-module _ {ps : List ℤ} {v : ValidParams} {n : ℕ} (w₀ : List ℕ) (p : Ready ps v n × (16 * n ≤ length w₀) × Clear w₀ (10 * n) (6 * n)) where
-  low : (i : ℕ) → i < n → frameKey v n ps i < 4 * n
-  low i l = key-below (v .t) v n ps (p .0 .room) (p .0 .settings .scale .some) n itself every (omega arith) (λ x l. l) i
+module _ {ps : List ℤ} {v : ValidParams} {n : ℕ} (w₀ : List ℕ) (p : Ready ps v n × (24 * n ≤ length w₀) × Clear w₀ (14 * n) (10 * n))
+    {w : List ℕ} {j : ℕ} (F : Fill (frameKey v n ps) w₀ (15 * n) n w j) (h : n ≤ j) where
+  clear-at : (b m : ℕ) → 14 * n ≤ b → b + m ≤ 24 * n → Clear w₀ b m
+  clear-at b m l g = clear-within w₀ (14 * n) (10 * n) b m (p .2) l (omega arith)
 
-  whole : n ≤ n
-  whole = omega arith
+  pub frames-can : Sortable (15 * n) n (16 * n) (8 * n) (14 * n) w × Clear w (16 * n) (8 * n)
+  frames-can = can-sort (frameKey v n ps) n (8 * n) (16 * n) n (le-refl n) (behind n) (key-low v n ps) w₀ (omega (arith, p .1)) (omega (arith, p .1)) (clear-at (16 * n) (8 * n) (omega arith) (omega arith)) (clear-at (15 * n) n (omega arith) (omega arith)) (omega (arith, p .0 .few)) (fill-end F h)
 
-  pub frame-key : (j b : ℕ) → j < n → {s : ℕ} → s ≡ width (v .t) → b ≡ bucketOf s (4 * n - 1) (frameAt (v .t) v n ps j) → b ≡ frameKey v n ps j
-  unfolding keyFor
-  frame-key j b l d q = q ∙ ap (λ (s : ℕ). bucketOf s (4 * n - 1) (frameAt (v .t) v n ps j)) d
-
-  module _ {w : List ℕ} {j : ℕ} (F : Fill (frameKey v n ps) w₀ (15 * n) n w j) (h : n ≤ j) where
-    pub frames-can : Sortable (15 * n) n (10 * n) (4 * n) (14 * n) w × Clear w (10 * n) (4 * n)
-    frames-can = can-sort (frameKey v n ps) n n whole low w₀ (p .1) (p .2) (omega (arith, p .0 .few)) (fill-end F h)
-
-    pub frames-sorted : {u x : List ℕ} → u ≡ over (over w (14 * n) (placesOf (keyIn w (15 * n)) n (4 * n))) (10 * n) (column (λ b. startOf (keyIn w (15 * n)) n (b + 1)) (4 * n)) → x ≡ over u (15 * n) (replicate n 0) → x ≡ sortedBy (frameKey v n ps) n n w₀
-    frames-sorted e f = f ∙ keys-cleared (frameKey v n ps) n n whole low w₀ (p .1) (p .2) (omega (arith, p .0 .few)) (fill-end F h) e
+  pub frames-sorted : {u x : List ℕ} → u ≡ over (over w (14 * n) (placesOf (keyIn w (15 * n)) n (8 * n))) (16 * n) (column (λ b. startOf (keyIn w (15 * n)) n (b + 1)) (8 * n)) → x ≡ over u (15 * n) (replicate n 0)
+      → x ≡ sortedBy (frameKey v n ps) n (8 * n) (16 * n) n w₀
+  frames-sorted e f = f ∙ keys-cleared (frameKey v n ps) n (8 * n) (16 * n) n (le-refl n) (behind n) (key-low v n ps) w₀ (omega (arith, p .1)) (omega (arith, p .1)) (clear-at (16 * n) (8 * n) (omega arith) (omega arith)) (clear-at (15 * n) n (omega arith) (omega arith)) (omega (arith, p .0 .few)) (fill-end F h) e

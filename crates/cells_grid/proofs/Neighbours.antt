@@ -105,8 +105,8 @@ module _ {ps : List ℤ} {v : ValidParams} {n i : ℕ} (r : Ready ps v n) (c : C
     unfolding found neighboursIn
     crowd =
         total-round (neighboursIn v n ps i) b R k
-        ∙ sym (length-concat (foundIn (v .t) v n ps n itself every i (neighbour g i)) (numbers R))
-        ∙ perm-length (found-order (v .t) v n ps (r .room) (r .settings .scale .some) n itself every (omega arith) (λ x l. l) i h (neighbour g i) (λ j l s t. near j l t))
+        ∙ sym (length-concat (foundIn (v .t) v n ps (8 * n - 1) itself every n i (neighbour g i)) (numbers R))
+        ∙ perm-length (found-order (v .t) v n ps (r .room) (r .settings .scale .some) (8 * n - 1) itself every n (omega arith) (λ x l. l) i h (neighbour g i) (λ j l s t. near j l t))
 
     pub rows-start : Sum turnedOf (2 ^ (v .channels - 1)) (g .least) 0 0
     rows-start = sum-start (omega (arith, at-least v n ps, r .least))
@@ -203,21 +203,21 @@ module _ {ps : List ℤ} {v : ValidParams} {n i : ℕ} {w arr : List ℕ} {own :
   tests-within m j {u} k c = not-within (geometryAt v n ps) i j (sameNats (rowOf (v .t) v n ps j) (rowAround (v .t) v n ps i m)) (sym k ∙ not-turn u true c)
 
 -- ---- one row
-module _ {ps : List ℤ} {v : ValidParams} {n i : ℕ} {w : List ℕ} (m : ℕ) (r : Ready ps v n) (h : i < n) (S : Sorted (frameKey v n ps) n (4 * n) (10 * n) (14 * n) w) {b : ℕ}
-    (q : b ≡ bucketAt (4 * n - 1) (rowHash (rowAround (v .t) v n ps i m)) ((raise (getD (frameAt (v .t) v n ps i) 0 (pos 0)) - v .t) / width (v .t))) where
+module _ {ps : List ℤ} {v : ValidParams} {n i : ℕ} {w : List ℕ} (m : ℕ) (r : Ready ps v n) (h : i < n) (S : Sorted (frameKey v n ps) n (8 * n) (16 * n) (14 * n) w) {b : ℕ}
+    (q : b ≡ bucketAt (8 * n - 1) (rowHash (rowAround (v .t) v n ps i m)) ((raise (getD (frameAt (v .t) v n ps i) 0 (pos 0)) - v .t) / width (v .t))) where
   abbrev f : ℕ → Bool
   f = neighbourIn v n ps i m
 
-  around : b ≡ bucketAround (v .t) v n ps n itself every i m
+  around : b ≡ bucketAround (v .t) v n ps (8 * n - 1) i m
   unfolding bucketAround
   around = q
 
-  pub row-bucket : b < 4 * n - 1
-  row-bucket = omega (arith, around, around-low (v .t) v n ps (r .room) (r .settings .scale .some) n itself every (omega arith) (λ x l. l) i h m)
+  pub row-bucket : b < 8 * n - 1
+  row-bucket = omega (arith, around, around-low (v .t) v n ps (8 * n - 1) (omega arith) i m)
 
-  module _ {s : Stretch} (e : s ≡ stretchIn w (10 * n) b (4 * n - 1)) where
-    H : Stretched (frameKey v n ps) n (14 * n) b (4 * n - 1) w s
-    H = let d : 4 * n ≡ 4 * n - 1 + 1 = omega arith in stretch-holds S d row-bucket e
+  module _ {s : Stretch} (e : s ≡ stretchIn w (16 * n) b (8 * n - 1)) where
+    H : Stretched (frameKey v n ps) n (14 * n) b (8 * n - 1) w s
+    H = let d : 8 * n ≡ 8 * n - 1 + 1 = omega arith in stretch-holds S d row-bucket e
 
     abbrev A : List ℕ
     A = part w (14 * n + s .«from») (s .to - s .«from»)
@@ -227,7 +227,7 @@ module _ {ps : List ℤ} {v : ValidParams} {n i : ℕ} {w : List ℕ} (m : ℕ) 
 
     low : (x : ℕ) → In x (A ++ B) → x < n
     unfolding numbered
-    low x j = elim (in-append x (numbered (frameKey v n ps) n b) (numbered (frameKey v n ps) n ((b + 1) % (4 * n - 1))) (subst (In x) (H .both) j)) [
+    low x j = elim (in-append x (numbered (frameKey v n ps) n b) (numbered (frameKey v n ps) n ((b + 1) % (8 * n - 1))) (subst (In x) (H .both) j)) [
       | inl a ↦ in-numbers n x (in-keep _ x (numbers n) a .0)
       | inr a ↦ in-numbers n x (in-keep _ x (numbers n) a .0)
     ]
@@ -236,11 +236,11 @@ module _ {ps : List ℤ} {v : ValidParams} {n i : ℕ} {w : List ℕ} (m : ℕ) 
     stretch-fits = (H .low, H .high, λ x j. low x (append-one x A B j))
 
     pub rest-fits : (0 ≤ s .rest) × (s .rest ≤ n) × Below n (part w (14 * n + 0) (s .rest - 0))
-    rest-fits = (omega arith, H .rest-high, λ x j. low x (append-two x A B j))
+    rest-fits = (omega arith, omega (arith, H .high, H .rest-low), λ x j. low x (append-two x A B j))
 
     pub row-sum : neighboursIn v n ps i m ≡ howMany (neighbourIn v n ps i m) (part w (14 * n + s .«from») (s .to - s .«from»)) + howMany (neighbourIn v n ps i m) (part w (14 * n + 0) (s .rest - 0))
     unfolding neighboursIn foundIn pairAt
     row-sum =
-        ap (λ (z : ℕ). howMany f (numbered (frameKey v n ps) n z ++ numbered (frameKey v n ps) n ((z + 1) % (4 * n - 1)))) (sym around)
+        ap (λ (z : ℕ). howMany f (numbered (frameKey v n ps) n z ++ numbered (frameKey v n ps) n ((z + 1) % (8 * n - 1)))) (sym around)
         ∙ ap (howMany f) (sym (H .both))
         ∙ ap length (keep-append f A B) ∙ length-append (keep f A) (keep f B)

@@ -12,7 +12,7 @@ use borrow.Author.Tests.{eq-eqb, ne-eqb}
 use Rattle.lists.specs.Lists.{numbers, keep, In, Below}
 use Rattle.lists.specs.Words.{over, part, column}
 use Rattle.lists.specs.Sorting.{numbered, placesOf}
-use Rattle.lists.specs.ListLaws.{in-keep, in-numbers, append-two, in-concat, in-map}
+use Rattle.lists.specs.ListLaws.{in-keep, in-numbers, append-one, append-two, in-concat, in-map}
 use Rattle.lists.specs.CountLaws.{keep-append}
 use Rattle.lists.specs.WordLaws.{over-length, over-nil, over-snoc, over-next}
 use Rattle.lists.specs.PartLaws.{get-under, part-below, part-step, part-under}
@@ -27,7 +27,7 @@ use Rattle.cells_grid.specs.Cells.{cells}
 use Rattle.cells_grid.specs.Arrangement.{cellAt, Arranged}
 use Rattle.cells_grid.specs.Ready.{ready-lawful}
 use Rattle.cells_grid.specs.ArrangementLaws.{cell-at-below, words-room, first-word, arranged-over}
-use Rattle.cells_grid.specs.Listing.{reachOf, coreAt, unmarked, cellKey, nearIn, listIn, Hashed}
+use Rattle.cells_grid.specs.Listing.{reachOf, unmarked, cellKey, nearIn, listIn, Hashed}
 use Rattle.cells_grid.specs.ListingLaws.{unmarked-more, unmarked-append, unmarked-over, few, in-below, hashed-over}
 
 module _ {v : ValidParams} {n : ℕ} {ps : List ℤ} {i : ℕ} {first : List ℕ} (R : Rows (reachOf v) v n ps i first) where
@@ -68,9 +68,13 @@ module _ {v : ValidParams} {n : ℕ} {ps : List ℤ} {i : ℕ} {first : List ℕ
 
 -- ---- a stretch
 module _ (v : ValidParams) (n : ℕ) (ps : List ℤ) where
-  -- of the sorted cells from `a` up to `b` the unmarked ones that lie in row r around frame i, and near it
+  -- of the sorted cells from `a` up to `b` those that lie in row r around frame i, and near it
+  abbrev pub nearBy : ℕ → ℕ → List ℕ → (a b : ℕ) → List ℕ
+  nearBy i r w a b = keep (nearIn v n ps i r) (part w (14 * n + a) (b - a))
+
+  -- and of these the unmarked ones
   abbrev pub stretch : ℕ → ℕ → List ℕ → (marks mark a b : ℕ) → List ℕ
-  stretch i r w marks mark a b = unmarked w marks mark (keep (nearIn v n ps i r) (part w (14 * n + a) (b - a)))
+  stretch i r w marks mark a b = unmarked w marks mark (nearBy i r w a b)
 
   -- they are listed from place m of the list on
   pub record Search (i r marks mark m a b : ℕ) (w₀ : List ℕ) : Type 0 where
@@ -90,6 +94,16 @@ module _ (v : ValidParams) (n : ℕ) (ps : List ℤ) where
     pub count : to ≡ m + length done
     pub laid : w ≡ over w₀ (15 * n + m) done
     pub left : done ++ stretch i r w₀ marks mark p b ≡ stretch i r w₀ marks mark a b
+
+  -- of a row the cells `done` are looked at, and of these the unmarked ones listed; left are those from `a` up to `b`, and after them those up to `rest`
+  pub record InRow (i r marks mark m : ℕ) (w₀ w : List ℕ) (a b rest more : ℕ) : Type 0 where
+    pub low : a ≤ b
+    pub high : b ≤ length (cells (geometryAt v n ps))
+    pub rest-low : rest ≤ b
+    pub done : List ℕ
+    pub count : more ≡ m + length (unmarked w₀ marks mark done)
+    pub laid : w ≡ over w₀ (15 * n + m) (unmarked w₀ marks mark done)
+    pub left : done ++ (nearBy i r w₀ a b ++ nearBy i r w₀ 0 rest) ≡ listIn v n ps i r
 
 -- the sorted numbers are cells
 places-below : (key : ℕ → ℕ) (m size : ℕ) → Below m (placesOf key m size)
@@ -214,7 +228,7 @@ module _ {v : ValidParams} {n : ℕ} {ps : List ℤ} {k i r along h marks mark m
   row-holds = stretch-holds (Q .hashed) (omega (arith, Q .arranged .count, Q .least)) (Q .low) (Q .found)
 
   abbrev B : ℕ
-  B = bucketAround (reachOf v) v n ps K (cellAt g) (coreAt g) i r
+  B = bucketAround (reachOf v) v n ps (4 * K - 1) i r
 
   bucket-is : b ≡ B
   unfolding bucketAround
@@ -222,65 +236,72 @@ module _ {v : ValidParams} {n : ℕ} {ps : List ℤ} {k i r along h marks mark m
       ∙ ap₂ (λ (x y : ℕ). bucketAt (4 * k - 1) x y) (Q .hash) (Q .block ∙ rows-along (Q .rows))
       ∙ ap (λ (x : ℕ). bucketAt (4 * x - 1) (rowHash (rowAround (reachOf v) v n ps i r)) ((raise (getD (frameAt (reachOf v) v n ps i) 0 (pos 0)) - reachOf v) / width (reachOf v))) (Q .arranged .count)
 
-  abbrev one : List ℕ
-  one = keep (nearIn v n ps i r) (part w (14 * n + s .«from») (s .to - s .«from»))
+  abbrev near : ℕ → ℕ → List ℕ
+  near = nearBy v n ps i r w
 
-  abbrev two : List ℕ
-  two = keep (nearIn v n ps i r) (part w (14 * n + 0) (s .rest - 0))
-
-  row-is : listIn v n ps i r ≡ one ++ two
+  row-is : near (s .«from») (s .to) ++ near 0 (s .rest) ≡ listIn v n ps i r
   unfolding listIn foundIn pairAt
-  row-is = ap (keep (nearIn v n ps i r)) (sym (row-holds .both ∙ ap₂ (λ (x y : ℕ). numbered (cellKey v n ps) K x ++ numbered (cellKey v n ps) K ((x + 1) % (4 * y - 1))) bucket-is (Q .arranged .count)))
-      ∙ keep-append (nearIn v n ps i r) (part w (14 * n + s .«from») (s .to - s .«from»)) (part w (14 * n + 0) (s .rest - 0))
+  row-is = sym (keep-append (nearIn v n ps i r) (part w (14 * n + s .«from») (s .to - s .«from»)) (part w (14 * n + 0) (s .rest - 0)))
+      ∙ ap (keep (nearIn v n ps i r)) (row-holds .both ∙ ap₂ (λ (x y : ℕ). numbered (cellKey v n ps) K x ++ numbered (cellKey v n ps) K ((x + 1) % (4 * y - 1))) bucket-is (Q .arranged .count))
 
-  abbrev X : List ℕ
-  X = unmarked w marks mark one
+  pub row-start : InRow v n ps i r marks mark m w w (s .«from») (s .to) (s .rest) m
+  unfolding unmarked
+  row-start = record { low = row-holds .low; high = row-holds .high; rest-low = row-holds .rest-low; done = []; count = omega arith; laid = sym (over-nil w (15 * n + m)); left = row-is }
 
-  abbrev Y : List ℕ
-  Y = unmarked w marks mark two
+  module _ {u : List ℕ} {from to rest more : ℕ} (I : InRow v n ps i r marks mark m w u from to rest more) where
+    abbrev free : List ℕ → List ℕ
+    free = unmarked w marks mark
 
-  both-free : unmarked w marks mark (listIn v n ps i r) ≡ X ++ Y
-  both-free = ap (unmarked w marks mark) row-is ∙ unmarked-append w marks mark one two
+    abbrev D : List ℕ
+    D = free (I .done)
 
-  lengths : length (unmarked w marks mark (listIn v n ps i r)) ≡ length X + length Y
-  lengths = ap length both-free ∙ length-append X Y
+    abbrev X : List ℕ
+    X = free (near from to)
 
-  pub row-first : (s .«from» ≤ s .to) × (s .to ≤ length (cells (geometryAt v n ps))) × (m + length (stretch v n ps i r w marks mark (s .«from») (s .to)) ≤ n)
-  row-first = (row-holds .low, row-holds .high, omega (arith, Q .room, lengths))
-
-  -- the first stretch is listed
-  module _ {t : ℕ} (c : t ≡ m + length (stretch v n ps i r w marks mark (s .«from») (s .to))) {u : List ℕ} (d : u ≡ over w (15 * n + m) (stretch v n ps i r w marks mark (s .«from») (s .to))) where
-    pub row-done : s .rest ≡ 0 → (t ≡ m + length (unmarked w marks mark (listIn v n ps i r))) × (u ≡ over w (15 * n + m) (unmarked w marks mark (listIn v n ps i r)))
-    unfolding unmarked
-    row-done z =
-        let y : two ≡ [] = ap (λ (x : ℕ). keep (nearIn v n ps i r) (part w (14 * n + 0) (x - 0))) z in
-        let l : X ≡ unmarked w marks mark (listIn v n ps i r) = sym (both-free ∙ ap (λ (x : List ℕ). X ++ unmarked w marks mark x) y ∙ append-nil X) in
-        (c ∙ ap (λ (x : List ℕ). m + length x) l, d ∙ ap (over w (15 * n + m)) l)
+    sizes : length D + (length X + length (free (near 0 rest))) ≡ length (free (listIn v n ps i r))
+    sizes = sym (ap length (ap free (sym (I .left)) ∙ unmarked-append w marks mark (I .done) (near from to ++ near 0 rest) ∙ ap (λ (l : List ℕ). D ++ l) (unmarked-append w marks mark (near from to) (near 0 rest)))
+        ∙ length-append D (X ++ free (near 0 rest)) ∙ ap (λ (x : ℕ). length D + x) (length-append X (free (near 0 rest))))
 
     pub row-length : length u ≡ length w
-    row-length = ap length d ∙ over-length w (15 * n + m) X (omega (arith, Q .fit, Q .room, lengths))
+    row-length = ap length (I .laid) ∙ over-length w (15 * n + m) D (omega (arith, Q .fit, Q .room, sizes))
 
     pub row-arranged : Arranged (geometryAt v n ps) (length (cells (geometryAt v n ps))) u
-    row-arranged = subst (λ (x : ℕ). Arranged g x u) (Q .arranged .count) (subst (Arranged g k) (sym d) (arranged-over g (15 * n + m) X (omega (arith, at-frames v n ps)) (omega (arith, Q .fit, Q .room, lengths)) (Q .arranged)))
+    row-arranged = subst (λ (x : ℕ). Arranged g x u) (Q .arranged .count) (subst (Arranged g k) (sym (I .laid)) (arranged-over g (15 * n + m) D (omega (arith, at-frames v n ps)) (omega (arith, Q .fit, Q .room)) (Q .arranged)))
 
     pub row-hashed : Hashed v n ps u
-    row-hashed = subst (Hashed v n ps) (sym d) (hashed-over (Q .rows .ready) (15 * n + m) X (omega (arith, Q .fit, Q .room, lengths)) (inr (omega arith)) (Q .hashed))
+    row-hashed = subst (Hashed v n ps) (sym (I .laid)) (hashed-over (Q .rows .ready) (15 * n + m) D (omega (arith, Q .fit, Q .room)) (inr (omega arith)) (Q .hashed))
 
     -- the sorted cells and the marks lie below the list, so they are as they were
-    second-same : stretch v n ps i r u marks mark 0 (s .rest) ≡ Y
-    second-same =
-        ap (λ (x : List ℕ). stretch v n ps i r x marks mark 0 (s .rest)) d
-        ∙ ap (λ (x : List ℕ). unmarked (over w (15 * n + m) X) marks mark (keep (nearIn v n ps i r) x)) (part-under w (14 * n + 0) (s .rest - 0) (15 * n + m) X (omega (arith, row-holds .rest-high, few (Q .rows .ready))) (omega (arith, Q .fit, Q .room, lengths)))
-        ∙ unmarked-over w marks mark n (15 * n + m) X two (λ x l. omega (arith, in-below (Q .rows .ready) i r x (subst (In x) (sym row-is) (append-two x one two l)), few (Q .rows .ready))) (omega (arith, Q .apart)) (omega (arith, Q .fit, Q .room, lengths))
+    as-before : stretch v n ps i r u marks mark from to ≡ X
+    as-before =
+        ap (λ (x : List ℕ). stretch v n ps i r x marks mark from to) (I .laid)
+        ∙ ap (λ (x : List ℕ). unmarked (over w (15 * n + m) D) marks mark (keep (nearIn v n ps i r) x)) (part-under w (14 * n + from) (to - from) (15 * n + m) D (omega (arith, I .low, I .high, few (Q .rows .ready))) (omega (arith, Q .fit, Q .room)))
+        ∙ unmarked-over w marks mark n (15 * n + m) D (near from to)
+        (λ x l. omega (arith, in-below (Q .rows .ready) i r x (subst (In x) (I .left) (append-two x (I .done) (near from to ++ near 0 rest) (append-one x (near from to) (near 0 rest) l))), few (Q .rows .ready)))
+        (omega (arith, Q .apart)) (omega (arith, Q .fit, Q .room))
 
-    pub row-second : (0 ≤ s .rest) × (s .rest ≤ length (cells (geometryAt v n ps))) × (t + length (stretch v n ps i r u marks mark 0 (s .rest)) ≤ n)
-    row-second = (omega arith, row-holds .rest-high, omega (arith, c, Q .room, lengths, ap length second-same))
+    pub row-room : more + length (stretch v n ps i r u marks mark from to) ≤ n
+    row-room = omega (arith, I .count, Q .room, sizes, ap length as-before)
 
-    pub row-end : {t₂ : ℕ} {u₂ : List ℕ} → t₂ ≡ t + length (stretch v n ps i r u marks mark 0 (s .rest)) → u₂ ≡ over u (15 * n + t) (stretch v n ps i r u marks mark 0 (s .rest))
-        → (t₂ ≡ m + length (unmarked w marks mark (listIn v n ps i r))) × (u₂ ≡ over w (15 * n + m) (unmarked w marks mark (listIn v n ps i r)))
-    row-end x y = (
-      omega (arith, x, c, lengths, ap length second-same),
-      y ∙ ap₂ (λ (z l : List ℕ). over z (15 * n + t) l) d second-same
-          ∙ over-next w (15 * n + m) (15 * n + t) X Y (omega (arith, c)) (omega (arith, c, Q .fit, Q .room, lengths))
-          ∙ ap (over w (15 * n + m)) (sym both-free),
-    )
+    pub row-next : {t : ℕ} {x : List ℕ} → t ≡ more + length (stretch v n ps i r u marks mark from to) → x ≡ over u (15 * n + more) (stretch v n ps i r u marks mark from to) → InRow v n ps i r marks mark m w x 0 rest 0 t
+    row-next {t} {x} p q =
+        let e : unmarked w marks mark (I .done ++ near from to) ≡ D ++ X = unmarked-append w marks mark (I .done) (near from to) in
+        record {
+          low = omega arith;
+          high = omega (arith, I .rest-low, I .high);
+          rest-low = omega arith;
+          done = I .done ++ near from to;
+          count = omega (arith, p, I .count, ap length as-before, ap length e, length-append D X);
+          laid = q ∙ ap₂ (λ (z l : List ℕ). over z (15 * n + more) l) (I .laid) as-before
+              ∙ over-next w (15 * n + m) (15 * n + more) D X (omega (arith, I .count)) (omega (arith, I .count, Q .fit, Q .room, sizes))
+              ∙ ap (over w (15 * n + m)) (sym e);
+          left = append-assoc (I .done) (near from to) (near 0 rest ++ [])
+              ∙ ap (λ (l : List ℕ). I .done ++ (near from to ++ l)) (append-nil (near 0 rest)) ∙ I .left;
+        }
+
+    pub row-end : to ≤ 0 → (more ≡ m + length (unmarked w marks mark (listIn v n ps i r))) × (u ≡ over w (15 * n + m) (unmarked w marks mark (listIn v n ps i r)))
+    row-end h =
+        let a : to - from ≡ 0 = omega arith in
+        let b : rest ≡ 0 = omega (arith, I .rest-low) in
+        let l : I .done ≡ listIn v n ps i r = sym (ap₂ (λ (x y : ℕ). I .done ++ (keep (nearIn v n ps i r) (part w (14 * n + from) x) ++ keep (nearIn v n ps i r) (part w (14 * n + 0) (y - 0)))) a b ∙ append-nil (I .done)) ∙ I .left in
+        (I .count ∙ ap (λ (x : List ℕ). m + length (free x)) l, I .laid ∙ ap (λ (x : List ℕ). over w (15 * n + m) (free x)) l)

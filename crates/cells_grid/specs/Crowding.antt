@@ -1,7 +1,7 @@
 -- Frames near a frame, counted row by row. Definitions only.
 use mathlib.Core.Bool.{Bool, true, _&&_}
 use mathlib.Core.List.{List}
-use Prim.Native.Nat.{ℕ}
+use Prim.Native.Nat.{ℕ, _-_, _*_}
 use lib.IntN.{ℤ}
 use lib.ListN.{length}
 use Rattle.hyperparams.specs.declared.ValidParams.{ValidParams}
@@ -18,9 +18,9 @@ abbrev pub every : ℕ → Bool
 every j = true
 
 module _ (v : ValidParams) (n : ℕ) (ps : List ℤ) where
-  -- the bucket of each frame, by blocks for the reach t
+  -- of 8 × n - 1 buckets that of each frame, by blocks for the reach t
   abbrev pub frameKey : ℕ → ℕ
-  frameKey = keyFor (v .t) v n ps n itself every
+  frameKey = keyFor (v .t) v n ps (8 * n - 1) itself every
 
   -- whether frame j is a neighbour of frame i in row r of those around it
   abbrev pub neighbourIn : ℕ → ℕ → ℕ → Bool
@@ -29,4 +29,4 @@ module _ (v : ValidParams) (n : ℕ) (ps : List ℤ) where
   -- how many are found there
   unfoldable pub neighboursIn : ℕ → ℕ → ℕ
   unfolding foundIn
-  neighboursIn i r = length (foundIn (v .t) v n ps n itself every i (neighbour (geometryAt v n ps) i) r)
+  neighboursIn i r = length (foundIn (v .t) v n ps (8 * n - 1) itself every n i (neighbour (geometryAt v n ps) i) r)

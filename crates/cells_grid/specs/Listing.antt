@@ -34,9 +34,13 @@ module _ (v : ValidParams) (n : ℕ) (ps : List ℤ) where
   abbrev pub geo : Geometry
   geo = geometryAt v n ps
 
+  -- how many buckets there are for the core cells
+  abbrev pub cellBuckets : ℕ
+  cellBuckets = 4 * length (cells geo) - 1
+
   -- the bucket of each core cell, by the block of its first frame
   abbrev pub cellKey : ℕ → ℕ
-  cellKey = keyFor (reachOf v) v n ps (length (cells geo)) (cellAt geo) (coreAt geo)
+  cellKey = keyFor (reachOf v) v n ps cellBuckets (cellAt geo) (coreAt geo)
 
   -- whether the first frame of cell d lies near frame i
   abbrev pub nearAt : ℕ → ℕ → Bool
@@ -49,12 +53,12 @@ module _ (v : ValidParams) (n : ℕ) (ps : List ℤ) where
   -- the core cells whose first frames lie in row r around frame i, and near it, in the order in which they are found
   unfoldable pub listIn : ℕ → ℕ → List ℕ
   unfolding foundIn
-  listIn i r = foundIn (reachOf v) v n ps (length (cells geo)) (cellAt geo) (coreAt geo) i (nearAt i) r
+  listIn i r = foundIn (reachOf v) v n ps cellBuckets (cellAt geo) (coreAt geo) (length (cells geo)) i (nearAt i) r
 
   -- the core cells that cell c lists, row by row
   unfoldable pub listOf : ℕ → List ℕ
   unfolding found
-  listOf c = found (reachOf v) v n ps (length (cells geo)) (cellAt geo) (coreAt geo) (cellAt geo c) (nearAt (cellAt geo c))
+  listOf c = found (reachOf v) v n ps cellBuckets (cellAt geo) (coreAt geo) (length (cells geo)) (cellAt geo c) (nearAt (cellAt geo c))
 
   -- the words hold the core cells by bucket: from 10n where those of each bucket end, from 14n the cells
   abbrev pub Hashed : List ℕ → Type 0

@@ -19,14 +19,13 @@ use Rattle.lists.specs.OrderLaws.{kept-le}
 use Rattle.lists.specs.PermLaws.{perm-same, perm-length}
 use Rattle.lists.specs.WordLaws.{over-again}
 use Rattle.lists.specs.PartLaws.{get-under, part-at, clear-over, clear-within}
-use Rattle.lists.specs.SortLaws.{start-le, start-of-all, places-of-length, places-of-below, begin-at}
+use Rattle.lists.specs.SortLaws.{sorted-over, start-le, start-of-all, places-of-length, places-of-below, begin-at}
 use Rattle.hyperparams.specs.declared.ValidParams.{ValidParams}
 use Rattle.counting_tree.specs.Frames.{squared}
 use Rattle.counting_tree.specs.Geometry.{Geometry, geometryOf, near}
 use Rattle.counting_tree.specs.Ready.{geometryAt, Ready, at-frames}
 use Rattle.blocks.specs.Blocks.{frameAt, bucketAround, pairAt, foundIn, found}
 use Rattle.blocks.specs.RowLaws.{key-below, found-order}
-use Rattle.blocks.specs.SortedLaws.{sorted-kept}
 use Rattle.cells_grid.specs.Cells.{cells, listed, coreCell}
 use Rattle.cells_grid.specs.Arrangement.{cellAt}
 use Rattle.cells_grid.specs.ArrangementLaws.{cells-le, cell-at-below, listed-at}
@@ -104,13 +103,13 @@ module _ {ps : List ℤ} {v : ValidParams} {n : ℕ} (r : Ready ps v n) where
 
   -- a key is below 4 × k
   pub cell-key-below : (d : ℕ) → d < length (cells (geometryAt v n ps)) → cellKey v n ps d < 4 * length (cells (geometryAt v n ps))
-  cell-key-below d h = key-below (reachOf v) v n ps (r .room) (r .settings .scale .some) k (cellAt g) (coreAt g) (omega arith) inside d
+  cell-key-below d h = omega (arith, key-below (reachOf v) v n ps (4 * k - 1) (omega arith) (cellAt g) (coreAt g) d)
 
   -- what is found in a row are cells
   pub in-below : (i q : ℕ) → Below (length (cells (geometryAt v n ps))) (listIn v n ps i q)
   unfolding listIn foundIn pairAt numbered
   in-below i q d l =
-      let b = bucketAround (reachOf v) v n ps k (cellAt g) (coreAt g) i q in
+      let b = bucketAround (reachOf v) v n ps (4 * k - 1) i q in
       let K = cellKey v n ps in
       elim (in-append d (numbered K k b) (numbered K k ((b + 1) % (4 * k - 1))) (in-keep (nearIn v n ps i q) d (numbered K k b ++ numbered K k ((b + 1) % (4 * k - 1))) l .0)) [
         | inl x ↦ in-numbers k d (in-keep (λ e. eqb (K e) b) d (numbers k) x .0)
@@ -127,9 +126,9 @@ module _ {ps : List ℤ} {v : ValidParams} {n : ℕ} (r : Ready ps v n) where
         (keep (λ d. coreCell (geometryAt v n ps) (cellAt (geometryAt v n ps) d) && listed (geometryAt v n ps) (cellAt (geometryAt v n ps) c) (cellAt (geometryAt v n ps) d)) (numbers (length (cells (geometryAt v n ps)))))
     unfolding listOf
     list-order =
-        subst (List·Permᴰ (found (reachOf v) v n ps k (cellAt g) (coreAt g) i (nearAt v n ps i)))
+        subst (List·Permᴰ (found (reachOf v) v n ps (4 * k - 1) (cellAt g) (coreAt g) k i (nearAt v n ps i)))
         (keep-same (λ d. coreAt g d && nearAt v n ps i d) (λ d. coreCell g (cellAt g d) && listed g i (cellAt g d)) (numbers k) (λ d l. ap (λ (b : Bool). coreAt g d && b) (sym (listed-at g c d h (in-numbers k d l)))))
-        (found-order (reachOf v) v n ps (r .room) (r .settings .scale .some) k (cellAt g) (coreAt g) (omega arith) inside i (inside c h) (nearAt v n ps i) (λ d l t u. near-reach v n ps i (cellAt g d) u))
+        (found-order (reachOf v) v n ps (r .room) (r .settings .scale .some) (4 * k - 1) (cellAt g) (coreAt g) k (omega arith) inside i (inside c h) (nearAt v n ps i) (λ d l t u. near-reach v n ps i (cellAt g d) u))
 
     pub list-length : length (listOf v n ps c) ≤ length (cells (geometryAt v n ps))
     list-length = omega (arith, perm-length list-order, kept-le (λ d. coreCell g (cellAt g d) && listed g i (cellAt g d)) k)
@@ -161,7 +160,8 @@ module _ {ps : List ℤ} {v : ValidParams} {n : ℕ} (r : Ready ps v n) where
 
   -- words laid below or above the sorted cells keep them
   pub hashed-over : {w : List ℕ} (b : ℕ) (ws : List ℕ) → b ≤ length w → (b + length ws ≤ 10 * n) ⊎ (15 * n ≤ b) → Hashed v n ps w → Hashed v n ps (over w b ws)
-  hashed-over b ws h l H = sorted-kept b ws few h l H
+  hashed-over b ws h (inl l) H = sorted-over H b ws (inr l) (inr (omega arith)) h
+  hashed-over b ws h (inr l) H = sorted-over H b ws (inl (omega (arith, few))) (inl (omega (arith, few))) h
 
   -- ---- the cells as they stand sorted
   module _ {w : List ℕ} (H : Hashed v n ps w) where

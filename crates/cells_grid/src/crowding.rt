@@ -1,5 +1,4 @@
 // Whether a frame has enough frames near it. All frames are sorted by blocks 2 × t + 1 wide: so the frames within the tolerance of a frame lie in the rows around it.
-use blocks::ENDS;
 use blocks::KEYS;
 use hyperparams::ValidParams;
 use lists::Word;
@@ -20,6 +19,14 @@ ghost use Rattle.cells_grid.specs.Cells.{cells, neighbour};
 ghost use Rattle.cells_grid.specs.Arrangement.{Arranged};
 ghost use Rattle.cells_grid.specs.Crowding.{frameKey, neighbourIn, neighboursIn};
 
+// From 16n on stands where the frames of each bucket end, eight words a frame: in all one more than there are buckets. (With so many, few frames of other rows fall into a stretch.)
+const ENDS: usize = 16;
+
+const BUCKETS: usize = 8;
+
+// The sorted frames, their keys and those ends stand in so many words a frame, from 14n on.
+pub const WORDS: usize = 10;
+
 // How wide the blocks are.
 fn width(v: ValidParams) -> u64
     requires { ⌜ v .t ≤ 65535 ⌝ }
@@ -30,17 +37,17 @@ fn width(v: ValidParams) -> u64
 
 // Sorts all frames by the buckets of their blocks: after it `crowded` can be asked.
 pub fn hash_frames(points: &[i16], v: ValidParams, n: usize, work: &mut [Word])
-    requires { ⌜ Ready (now points) v n × (16 * n ≤ length (now work)) × Clear (now work) (10 * n) (6 * n) ⌝ }
-    ensures { λ _. ⌜ now (work .exit) ≡ sortedBy (frameKey v n (now (points .entry))) n n (now (work .entry)) ⌝ }
+    requires { ⌜ Ready (now points) v n × (24 * n ≤ length (now work)) × Clear (now work) (14 * n) (10 * n) ⌝ }
+    ensures { λ _. ⌜ now (work .exit) ≡ sortedBy (frameKey v n (now (points .entry))) n (8 * n) (16 * n) n (now (work .entry)) ⌝ }
 {
     let w = width(v);
     let mut j = 0;
     while j < n {
-        let b = blocks::key(points, v, n, w, 4 * n - 1, j);
+        let b = blocks::key(points, v, n, w, BUCKETS * n - 1, j);
         work[KEYS * n + j] = b as Word;
         j += 1;
     }
-    lists::sorting::sort(work, KEYS * n, n, ENDS * n, 4 * n, blocks::PLACES * n);
+    lists::sorting::sort(work, KEYS * n, n, ENDS * n, BUCKETS * n, blocks::PLACES * n);
     lists::clear_words(work, KEYS * n, n);
 }
 
@@ -127,10 +134,10 @@ fn count_row(
     requires { ⌜ Ready (now points) v n × Arranged (geometryAt v n (now points)) (length (cells (geometryAt v n (now points)))) (now work) × (i < n) × (own ≡ Cells.first (geometryAt v n (now points)) i) ⌝ }
     requires { ⌜ (first ≡ over (replicate 4 0) 0 (edgesOf (Blocks.width (v .t)) (v .t) (frameAt (v .t) v n (now points) i))) × Below 65536 first ⌝ }
     requires { ⌜ (h ≡ rowHash (rowAround (v .t) v n (now points) i m)) × (along ≡ (raise (getD (frameAt (v .t) v n (now points) i) 0 (pos 0)) - v .t) / Blocks.width (v .t)) ⌝ }
-    requires { ⌜ (count < v .«min_points») × (16 * n ≤ length (now work)) × Sorted (frameKey v n (now points)) n (4 * n) (10 * n) (14 * n) (now work) ⌝ }
+    requires { ⌜ (count < v .«min_points») × (24 * n ≤ length (now work)) × Sorted (frameKey v n (now points)) n (8 * n) (16 * n) (14 * n) (now work) ⌝ }
     ensures { λ r. ⌜ r ≡ min (v .«min_points») (count + neighboursIn v n (now (points .entry)) i m) ⌝ }
 {
-    let size = 4 * n - 1;
+    let size = BUCKETS * n - 1;
     let s = blocks::stretch_at(work, ENDS * n, blocks::bucket(h, along, size), size);
     let more = count_stretch(points, v, n, work, first, m, own, i, s.from, s.to, count);
     if more >= v.min_points {
@@ -143,7 +150,7 @@ fn count_row(
 // (Most of those lie in the row in which frame i lies itself: the count begins there.)
 pub fn crowded(points: &[i16], v: ValidParams, n: usize, work: &[Word], i: usize) -> bool
     requires { ⌜ Ready (now points) v n × Counts (now points) × (i < n) ⌝ }
-    requires { ⌜ Arranged (geometryAt v n (now points)) (length (cells (geometryAt v n (now points)))) (now work) × Sorted (frameKey v n (now points)) n (4 * n) (10 * n) (14 * n) (now work) × (16 * n ≤ length (now work)) ⌝ }
+    requires { ⌜ Arranged (geometryAt v n (now points)) (length (cells (geometryAt v n (now points)))) (now work) × Sorted (frameKey v n (now points)) n (8 * n) (16 * n) (14 * n) (now work) × (24 * n ≤ length (now work)) ⌝ }
     ensures { λ r. ⌜ r ≡ leb (geometryAt v n (now (points .entry)) .least) (howMany (neighbour (geometryAt v n (now (points .entry))) i) (numbers n)) ⌝ }
 {
     if v.min_points > n {

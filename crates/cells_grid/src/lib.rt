@@ -1,7 +1,7 @@
 // Cells, their lists and their core frames (CellsGrid and Cell of the source), in words of one lent slice.
 // `v` has the settings, `n` is the number of frames, `k` the number of cells. A cell has a number; frame i's is at i,
-// and each of the regions below has one word a frame too. From 10n up to 16n, and for `populate` up to 24n,
-// each phase finds words that are 0 and leaves them so: `inserting`, `listing` and the crate `blocks` say what stands there meanwhile.
+// and each of the regions below has one word a frame too. From 10n up to 16n, and for `populate` and `label_points` up to 24n,
+// each phase finds words that are 0 and leaves them so: `inserting`, `crowding`, `listing` and the crate `blocks` say what stands there meanwhile.
 use hyperparams::ValidParams;
 use lists::Word;
 ghost use mathlib.Core.Path.{_≡_};
@@ -108,7 +108,7 @@ pub fn points_in_range(
 // 1 if frame i is core, else 0.
 fn core_frame(points: &[i16], v: ValidParams, n: usize, work: &[Word], k: usize, i: usize) -> Word
     requires { ⌜ Ready (now points) v n × Arranged (geometryAt v n (now points)) k (now work) × (i < n) ⌝ }
-    requires { ⌜ Counts (now points) × Sorted (frameKey v n (now points)) n (4 * n) (10 * n) (14 * n) (now work) × (16 * n ≤ length (now work)) ⌝ }
+    requires { ⌜ Counts (now points) × Sorted (frameKey v n (now points)) n (8 * n) (16 * n) (14 * n) (now work) × (24 * n ≤ length (now work)) ⌝ }
     ensures { λ r. ⌜ r ≡ coreBit (geometryAt v n (now (points .entry))) i ⌝ }
 {
     let c = lists::word(work, i);
@@ -124,7 +124,7 @@ fn core_frame(points: &[i16], v: ValidParams, n: usize, work: &[Word], k: usize,
 
 // Writes which frames are core, by the frames near each frame of a cell that is not dense.
 fn label_frames(points: &[i16], v: ValidParams, n: usize, k: usize, work: &mut [Word])
-    requires { ⌜ Ready (now points) v n × Arranged (geometryAt v n (now points)) k (now work) × (16 * n ≤ length (now work)) × Clear (now work) (10 * n) (6 * n) ⌝ }
+    requires { ⌜ Ready (now points) v n × Arranged (geometryAt v n (now points)) k (now work) × (24 * n ≤ length (now work)) × Clear (now work) (10 * n) (14 * n) ⌝ }
     ensures { λ _. ⌜ now (work .exit) ≡ over (now (work .entry)) (4 * n) (column (coreBit (geometryAt v n (now (points .entry)))) n) ⌝ }
 {
     // Every count is then known to be a signed 16-bit number, which `crowded` rests on.
@@ -136,7 +136,7 @@ fn label_frames(points: &[i16], v: ValidParams, n: usize, k: usize, work: &mut [
         work[CORES * n + i] = b;
         i += 1;
     }
-    lists::clear_words(work, blocks::ENDS * n, 5 * n);
+    lists::clear_words(work, blocks::PLACES * n, crowding::WORDS * n);
 }
 
 // Whether every cell has at least `min_points` frames.
@@ -157,7 +157,7 @@ fn all_dense(points: &[i16], v: ValidParams, n: usize, k: usize, work: &[Word]) 
 
 // Writes which frames are core. (Where every cell is dense all are, and no frame has to be looked for.)
 pub fn label_points(points: &[i16], v: ValidParams, n: usize, k: usize, work: &mut [Word])
-    requires { ⌜ Ready (now points) v n × Arranged (geometryAt v n (now points)) k (now work) × (16 * n ≤ length (now work)) × Clear (now work) (10 * n) (6 * n) ⌝ }
+    requires { ⌜ Ready (now points) v n × Arranged (geometryAt v n (now points)) k (now work) × (24 * n ≤ length (now work)) × Clear (now work) (10 * n) (14 * n) ⌝ }
     ensures { λ _. ⌜ now (work .exit) ≡ over (now (work .entry)) (4 * n) (column (coreBit (geometryAt v n (now (points .entry)))) n) ⌝ }
 {
     if all_dense(points, v, n, k, work) {

@@ -1,6 +1,5 @@
 // The core cells that a cell lists. They are sorted by the blocks of their first frames, 4 × t + 1 wide: so those near a frame lie in the rows around it.
 // From 10n up to 15n stand the sorted cells, from 15n on the list of one cell.
-use blocks::ENDS;
 use blocks::KEYS;
 use hyperparams::ValidParams;
 use lists::Word;
@@ -22,6 +21,11 @@ ghost use Rattle.cells_grid.specs.Listing.{reachOf, sortedCount, cellKey
 pub const TREES: usize = 5;
 
 pub const LIST: usize = 15;
+
+// From 10n on stands where the cells of each bucket end, four words a cell: in all one more than there are buckets, for the cells that are not core.
+pub const ENDS: usize = 10;
+
+const BUCKETS: usize = 4;
 
 // One more than the greatest word: no cell is marked with it.
 const NO_WORD: usize = 65536;
@@ -49,7 +53,7 @@ fn cell_key(points: &[i16], v: ValidParams, n: usize, k: usize, work: &[Word], c
     ensures { λ r. ⌜ r ≡ cellKey v n (now (points .entry)) c ⌝ }
     ensures { λ r. ⌜ r < 4 * k ⌝ }
 {
-    let size = 4 * k - 1;
+    let size = BUCKETS * k - 1;
     if lists::word(work, TREES * n + c) == 0 {
         return size;
     }
@@ -60,7 +64,7 @@ fn cell_key(points: &[i16], v: ValidParams, n: usize, k: usize, work: &[Word], c
 pub fn hash_cells(points: &[i16], v: ValidParams, n: usize, k: usize, work: &mut [Word])
     requires { ⌜ Ready (now points) v n × Arranged (geometryAt v n (now points)) k (now work) × (16 * n ≤ length (now work)) × Clear (now work) (10 * n) (6 * n) ⌝ }
     requires { ⌜ ((c : ℕ) → c < k → nonzero (getD (now work) (5 * n + c) 0) ≡ coreCell (geometryAt v n (now points)) (cellAt (geometryAt v n (now points)) c)) ⌝ }
-    ensures { λ _. ⌜ now (work .exit) ≡ sortedBy (cellKey v n (now (points .entry))) k n (now (work .entry)) ⌝ }
+    ensures { λ _. ⌜ now (work .exit) ≡ sortedBy (cellKey v n (now (points .entry))) k (4 * k) (10 * n) n (now (work .entry)) ⌝ }
 {
     let mut c = 0;
     while c < k {
@@ -68,7 +72,7 @@ pub fn hash_cells(points: &[i16], v: ValidParams, n: usize, k: usize, work: &mut
         work[KEYS * n + c] = b as Word;
         c += 1;
     }
-    lists::sorting::sort(work, KEYS * n, k, ENDS * n, 4 * k, blocks::PLACES * n);
+    lists::sorting::sort(work, KEYS * n, k, ENDS * n, BUCKETS * k, blocks::PLACES * n);
     lists::clear_words(work, KEYS * n, k);
 }
 
@@ -170,39 +174,20 @@ fn list_row(
     ensures { λ s. ⌜ s ≡ m + length (unmarked (now (work .entry)) marks mark (listIn v n (now (points .entry)) i r)) ⌝ }
     ensures { λ _. ⌜ now (work .exit) ≡ over (now (work .entry)) (15 * n + m) (unmarked (now (work .entry)) marks mark (listIn v n (now (points .entry)) i r)) ⌝ }
 {
-    let size = 4 * k - 1;
+    let size = BUCKETS * k - 1;
     let s = blocks::stretch_at(work, ENDS * n, blocks::bucket(h, along, size), size);
-    let more = list_stretch(
-        points,
-        v,
-        n,
-        work,
-        i,
-        first,
-        r,
-        s.from,
-        s.to,
-        m,
-        marks,
-        mark,
-    );
-    if s.rest == 0 {
-        return more;
+    let mut from = s.from;
+    let mut to = s.to;
+    let mut rest = s.rest;
+    let mut more = m;
+    // One place of call for both stretches: the compiler then puts it in line. (What ends at 0 is empty, and so is its rest.)
+    while to > 0 {
+        more = list_stretch(points, v, n, work, i, first, r, from, to, more, marks, mark);
+        from = 0;
+        to = rest;
+        rest = 0;
     }
-    list_stretch(
-        points,
-        v,
-        n,
-        work,
-        i,
-        first,
-        r,
-        0,
-        s.rest,
-        more,
-        marks,
-        mark,
-    )
+    more
 }
 
 // Writes the core cells that cell c lists and whose word from `marks` on is not `mark`, from 15n on. Returns how many there are.

@@ -48,9 +48,9 @@ module _ {ps : List ℤ} {v : ValidParams} {n : ℕ} (r : Ready ps v n) {k : ℕ
   led = subst (Led isCore low) (sym (cell-count r gr)) (lowest-led g (n * n))
 
   -- ---- sorted
-  module _ {w₀ : List ℕ} (e₀ : w₀ ≡ sortedBy (cellKey v n ps) k n w) where
+  module _ {w₀ : List ℕ} (e₀ : w₀ ≡ sortedBy (cellKey v n ps) k (4 * k) (10 * n) n w) where
     sorted₀ : w₀ ≡ hashed ps v n w
-    sorted₀ = e₀ ∙ ap (λ (m : ℕ). sortedBy (cellKey v n ps) m n w) (cell-count r gr)
+    sorted₀ = e₀ ∙ ap (λ (m : ℕ). sortedBy (cellKey v n ps) m (4 * m) (10 * n) n w) (cell-count r gr)
 
     pub search₀ : CanSearch ps v n k w₀
     search₀ = subst (CanSearch ps v n k) (sym sorted₀) (search-start r gr l cl)

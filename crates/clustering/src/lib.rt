@@ -1,6 +1,6 @@
 // Sets of linked core cells, and the labels of frames, in words of one lent slice.
 // `v` has the settings, `n` is the number of frames, `k` the number of cells.
-use blocks::ENDS;
+use cells_grid::listing::ENDS;
 use hyperparams::ValidParams;
 use lists::Word;
 ghost use mathlib.Core.Path.{_≡_};

@@ -41,9 +41,6 @@ module _ {ps : List ℤ} {v : ValidParams} {n : ℕ} (r : Ready ps v n) (w : Lis
   all-clear : Clear w₀ (10 * n) (14 * n)
   all-clear = rw e₀ (made-clear w (10 * n) (14 * n) (omega arith))
 
-  clear₀ : Clear w₀ (10 * n) (6 * n)
-  clear₀ = clear-within w₀ (10 * n) (14 * n) (10 * n) (6 * n) all-clear (omega arith) (omega arith)
-
   pub clear-populate : Clear w₀ (10 * n) (3 * n) × Clear w₀ (16 * n) (8 * n)
   clear-populate = (clear-within w₀ (10 * n) (14 * n) (10 * n) (3 * n) all-clear (omega arith) (omega arith), clear-within w₀ (10 * n) (14 * n) (16 * n) (8 * n) all-clear (omega arith) (omega arith))
 
@@ -54,8 +51,8 @@ module _ {ps : List ℤ} {v : ValidParams} {n : ℕ} (r : Ready ps v n) (w : Lis
     pub arranged₁ : Arranged g k w₁
     arranged₁ = rw (e, e₁) (populated-arranged g (ready-lawful r) w₀ (omega (arith, f, h₀)))
 
-    pub clear₁ : Clear w₁ (10 * n) (6 * n)
-    clear₁ = within-clear within₁ (10 * n) (6 * n) (omega arith) clear₀
+    pub clear₁ : Clear w₁ (10 * n) (14 * n)
+    clear₁ = within-clear within₁ (10 * n) (14 * n) (omega arith) all-clear
 
     module _ {w₂ : List ℕ} (e₂ : w₂ ≡ over w₁ (4 * n) (column (coreBit g) n)) where
       within₂ : Within (5 * n) w₀ w₂
@@ -65,7 +62,7 @@ module _ {ps : List ℤ} {v : ValidParams} {n : ℕ} (r : Ready ps v n) (w : Lis
       cored₂ = rw e₂ (cored g arranged₁ n f (omega (arith, h₀, within₁ .size)))
 
       pub clear₂ : Clear w₂ (10 * n) (3 * n)
-      clear₂ = clear-within w₂ (10 * n) (6 * n) (10 * n) (3 * n) (within-clear within₂ (10 * n) (6 * n) (omega arith) clear₀) (omega arith) (omega arith)
+      clear₂ = clear-within w₂ (10 * n) (14 * n) (10 * n) (3 * n) (within-clear within₂ (10 * n) (14 * n) (omega arith) all-clear) (omega arith) (omega arith)
 
       pub prepared₃ : {w₃ : List ℕ} → w₃ ≡ over (over w₂ (5 * n) (column (treeWord g 0) k)) (16 * n) (forestTo g 0 k) → 16 * n ≤ length w₃ → Prepared ps v n k w₃
       prepared₃ e₃ h₃ = record { ready = r; grown = rw e₃ (grown cored₂ f (omega (arith, h₀, within₂ .size)) 0); few = words-count g (ready-lawful r) (cored₂ .cells) n f; room = h₃ }

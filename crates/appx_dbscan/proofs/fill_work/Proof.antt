@@ -1,6 +1,6 @@
 -- `fill_work` meets its contract.
 use borrow.Author.Needs.{needs}
-use Rattle.appx_dbscan.proofs.Phases.{clear-populate, clear-later, arranged₁, clear₁, cored₂, clear₂, grown₃, clear₃, filled₄}
+use Rattle.appx_dbscan.proofs.Phases.{clear-populate, arranged₁, clear₁, cored₂, clear₂, grown₃, clear₃, filled₄}
 use Rattle.appx_dbscan.proofs.fill_work.Statement.{statement}
 use Rattle.appx_dbscan.proofs.fill_work.Tie as tie
 
@@ -12,28 +12,25 @@ populate-requires c κs =
 label-points-requires : tie.Need-label-points-requires
 label-points-requires c κs =
     let r = c .before .before .before .before .before .before .pre in
-    let z = clear-later (c .before .before .before .before .before .before .args .n) (c .before .before .before .before .before .before .args .work .now) (c .before .before .before .before .before .before .pre .2) in
     let w = c .before .before .before .before .before .before .args .work .now in
-    (r .0, arranged₁ (r .0) w (r .1) (c .before .before .before .populate .ensures .0) (c .before .before .before .populate .ensures .1), search needs, clear₁ (r .0) w (r .1) (c .before .before .before .populate .ensures .0) (c .before .before .before .populate .ensures .1) z)
+    (r .0, arranged₁ (r .0) w (r .1) (c .before .before .before .populate .ensures .0) (c .before .before .before .populate .ensures .1), search needs, clear₁ (r .0) w (r .1) (c .before .before .before .populate .ensures .0) (c .before .before .before .populate .ensures .1) (r .2))
 
 build-trees-requires : tie.Need-build-trees-requires
 build-trees-requires c κs =
     let r = c .before .before .before .before .before .before .before .before .before .before .pre in
-    let z = clear-later (c .before .before .before .before .before .before .before .before .before .before .args .n) (c .before .before .before .before .before .before .before .before .before .before .args .work .now) (c .before .before .before .before .before .before .before .before .before .before .pre .2) in
     let w = c .before .before .before .before .before .before .before .before .before .before .args .work .now in
     let p = c .before .before .before .before .before .before .before .populate .ensures in
     let e₂ = c .before .before .before .label-points .ensures in
-    ((r .0, cored₂ (r .0) w (r .1) (p .0) (p .1) e₂), (search needs, clear₂ (r .0) w (r .1) (p .0) (p .1) e₂ z))
+    ((r .0, cored₂ (r .0) w (r .1) (p .0) (p .1) e₂), (search needs, clear₂ (r .0) w (r .1) (p .0) (p .1) e₂ (r .2)))
 
 label-requires : tie.Need-label-requires
 label-requires c κs =
     let r = c .before .before .before .before .before .before .before .before .before .before .before .before .before .before .pre in
-    let z = clear-later (c .before .before .before .before .before .before .before .before .before .before .before .before .before .before .args .n) (c .before .before .before .before .before .before .before .before .before .before .before .before .before .before .args .work .now) (c .before .before .before .before .before .before .before .before .before .before .before .before .before .before .pre .2) in
     let w = c .before .before .before .before .before .before .before .before .before .before .before .before .before .before .args .work .now in
     let p = c .before .before .before .before .before .before .before .before .before .before .before .populate .ensures in
     let e₂ = c .before .before .before .before .before .before .before .label-points .ensures in
     let e₃ = c .before .before .before .build-trees .ensures in
-    (r .0, grown₃ (r .0) w (r .1) (p .0) (p .1) e₂ e₃, search needs, clear₃ (r .0) w (r .1) (p .0) (p .1) e₂ e₃ z)
+    (r .0, grown₃ (r .0) w (r .1) (p .0) (p .1) e₂ e₃, search needs, clear₃ (r .0) w (r .1) (p .0) (p .1) e₂ e₃ (r .2))
 
 same-length : tie.Need-same-length
 same-length c = search needs

@@ -52,7 +52,7 @@ loop-less : tie.Need-loop-less Inv-loop μ-loop
 loop-less c = omega (arith, c .before .loop-test .taken)
 
 loop-again : tie.Need-loop-again Inv-loop μ-loop
-loop-again c = fill-step (c .before .before .loop .inv) (c .before .loop-test .taken) (c .key .result) _ refl (frame-key (c .before .before .before .before .before .args .work .now) (c .before .before .before .before .before .pre) (c .before .before .loop .j) (c .key .result) (c .before .loop-test .taken) (c .before .before .before .width .ensures) (c .key .ensures .0))
+loop-again c = fill-step (c .before .before .loop .inv) (c .before .loop-test .taken) (c .key .result) _ refl (frame-key (c .before .before .before .before .before .args .v) (c .before .before .before .before .before .args .n) (c .before .before .before .before .before .args .points .now) (c .before .before .loop .j) (c .before .before .before .width .ensures) (c .key .ensures .0))
 
 mul-sort : tie.Need-mul-sort Inv-loop μ-loop
 mul-sort c = omega (arith, c .before .before .before .before .before .pre .0 .few)
