@@ -84,7 +84,7 @@ pub fn sorted_count(work: &[Word], n: usize, k: usize) -> usize
     if k == 0 {
         return 0;
     }
-    lists::sorting::begins(work, ENDS * n, 4 * k - 1)
+    lists::sorting::begins(work, ENDS * n, BUCKETS * k - 1)
 }
 
 // Whether cell d is not marked, and its first frame lies in row r of those that begin at `first`, and near frame i.
