@@ -20,8 +20,8 @@ use Rattle.cells_grid.specs.Cells.{cells}
 use Rattle.cells_grid.specs.Arrangement.{cellAt, Arranged}
 use Rattle.cells_grid.specs.Ready.{ready-lawful}
 use Rattle.cells_grid.specs.ArrangementLaws.{cell-at-below, first-word, arranged-over}
-use Rattle.cells_grid.specs.Listing.{unmarked, listIn, listOf, Hashed}
-use Rattle.cells_grid.specs.ListingLaws.{unmarked-all, unmarked-le, unmarked-append, unmarked-over, few, in-below, list-length, hashed-over}
+use Rattle.cells_grid.specs.Listing.{unmarked, listIn, listOf, CellsSorted}
+use Rattle.cells_grid.specs.ListingLaws.{unmarked-all, unmarked-le, unmarked-append, unmarked-over, few, in-below, list-length, cells-sorted-over}
 
 -- where no word is the mark, no cell is left out
 pub none-marked : (w : List ℕ) (a m b : ℕ) (ds : List ℕ) → ((d : ℕ) → getD w (a + d) 0 ≡ m → ⊥) → {x : ℕ} {u : List ℕ} → (x ≡ length (unmarked w a m ds)) × (u ≡ over w b (unmarked w a m ds)) → (x ≡ length ds) × (u ≡ over w b ds)
@@ -52,7 +52,7 @@ module _ (v : ValidParams) (n : ℕ) (ps : List ℤ) (i : ℕ) where
   pub record Asked (k c marks : ℕ) (w₀ : List ℕ) : Type 0 where
     pub ready : Ready ps v n
     pub arranged : Arranged (geometryAt v n ps) k w₀
-    pub hashed : Hashed v n ps w₀
+    pub sorted : CellsSorted v n ps w₀
     pub cell : c < k
     pub fit : 16 * n ≤ length w₀
     pub apart : marks + n ≤ 10 * n
@@ -99,8 +99,8 @@ module _ {v : ValidParams} {n : ℕ} {ps : List ℤ} {i k c marks : ℕ} {w₀ :
     pub gathering-arranged : Arranged (geometryAt v n ps) k w
     gathering-arranged = subst (Arranged g k) (sym (G .laid)) (arranged-over g (15 * n) (free (upTo v n ps i r)) (omega (arith, at-frames v n ps)) (omega (arith, S .fit)) (S .arranged))
 
-    pub gathering-hashed : Hashed v n ps w
-    gathering-hashed = subst (Hashed v n ps) (sym (G .laid)) (hashed-over (S .ready) (15 * n) (free (upTo v n ps i r)) (omega (arith, S .fit)) (inr (omega arith)) (S .hashed))
+    pub gathering-sorted : CellsSorted v n ps w
+    gathering-sorted = subst (CellsSorted v n ps) (sym (G .laid)) (cells-sorted-over (S .ready) (15 * n) (free (upTo v n ps i r)) (omega (arith, S .fit)) (inr (omega arith)) (S .sorted))
 
     module _ (more : r < 2 ^ (v .channels - 1)) where
       -- the marks lie below the list, so they are as they were

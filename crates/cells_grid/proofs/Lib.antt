@@ -7,6 +7,6 @@ pub mod Listed
 pub mod InRange
 pub mod Core
 pub mod Searching
-pub mod Hashing
+pub mod Sorting
 pub mod Gathering
 pub mod Neighbours

@@ -27,8 +27,8 @@ use Rattle.cells_grid.specs.Cells.{cells}
 use Rattle.cells_grid.specs.Arrangement.{cellAt, Arranged}
 use Rattle.cells_grid.specs.Ready.{ready-lawful}
 use Rattle.cells_grid.specs.ArrangementLaws.{cell-at-below, words-room, first-word, arranged-over}
-use Rattle.cells_grid.specs.Listing.{reachOf, unmarked, cellKey, nearIn, listIn, Hashed}
-use Rattle.cells_grid.specs.ListingLaws.{unmarked-more, unmarked-append, unmarked-over, few, in-below, hashed-over}
+use Rattle.cells_grid.specs.Listing.{reachOf, unmarked, cellKey, nearIn, listIn, CellsSorted}
+use Rattle.cells_grid.specs.ListingLaws.{unmarked-more, unmarked-append, unmarked-over, few, in-below, cells-sorted-over}
 
 module _ {v : ValidParams} {n : ℕ} {ps : List ℤ} {i : ℕ} {first : List ℕ} (R : Rows (reachOf v) v n ps i first) where
   -- ---- whether a cell is found: its mark x first, then whether its first frame j is near, then its row
@@ -80,7 +80,7 @@ module _ (v : ValidParams) (n : ℕ) (ps : List ℤ) where
   pub record Search (i r marks mark m a b : ℕ) (w₀ : List ℕ) : Type 0 where
     pub ready : Ready ps v n
     pub arranged : Arranged (geometryAt v n ps) (length (cells (geometryAt v n ps))) w₀
-    pub hashed : Hashed v n ps w₀
+    pub sorted : CellsSorted v n ps w₀
     pub fit : 16 * n ≤ length w₀
     pub apart : marks + n ≤ 10 * n
     pub low : a ≤ b
@@ -113,7 +113,7 @@ places-below key m size d l =
     let y = in-map (λ b. keep (λ i. eqb (key i) b) (numbers m)) (z .0) (numbers size) (z .1) in
     in-numbers m d (in-keep (λ i. eqb (key i) (y .0)) d (numbers m) (subst (In d) (y .2) (z .2)) .0)
 
-module _ {ps : List ℤ} {v : ValidParams} {n : ℕ} (r : Ready ps v n) {w : List ℕ} (H : Hashed v n ps w) (fit : 16 * n ≤ length w) where
+module _ {ps : List ℤ} {v : ValidParams} {n : ℕ} (r : Ready ps v n) {w : List ℕ} (H : CellsSorted v n ps w) (fit : 16 * n ≤ length w) where
   place-cell : (p : ℕ) → p < length (cells (geometryAt v n ps)) → getD w (14 * n + p) 0 < length (cells (geometryAt v n ps))
   place-cell p h =
       let k = length (cells (geometryAt v n ps)) in
@@ -154,7 +154,7 @@ module _ {v : ValidParams} {n : ℕ} {ps : List ℤ} {i r marks mark m a b : ℕ
       was = e ∙ word-same (14 * n + p) (omega (arith, S .high, few (S .ready)))
 
       pub walking-cell : d < length (cells (geometryAt v n ps))
-      walking-cell = omega (arith, was, place-cell (S .ready) (S .hashed) (S .fit) p (omega (arith, S .high)))
+      walking-cell = omega (arith, was, place-cell (S .ready) (S .sorted) (S .fit) p (omega (arith, S .high)))
 
       pub walking-mark : marks + d < length w
       walking-mark = omega (arith, walking-cell, few (S .ready), walking-length, S .apart, S .fit)
@@ -206,7 +206,7 @@ module _ {v : ValidParams} {n : ℕ} {ps : List ℤ} {i r marks mark m a b : ℕ
 pub record Row (v : ValidParams) (n : ℕ) (ps : List ℤ) (k i r along h marks mark m b : ℕ) (first w : List ℕ) (s : Stretch) : Type 0 where
   pub rows : Rows (reachOf v) v n ps i first
   pub arranged : Arranged (geometryAt v n ps) k w
-  pub hashed : Hashed v n ps w
+  pub sorted : CellsSorted v n ps w
   pub fit : 16 * n ≤ length w
   pub apart : marks + n ≤ 10 * n
   pub least : 0 < k
@@ -225,7 +225,7 @@ module _ {v : ValidParams} {n : ℕ} {ps : List ℤ} {k i r along h marks mark m
   K = length (cells g)
 
   row-holds : Stretched (cellKey v n ps) (length (cells (geometryAt v n ps))) (14 * n) b (4 * k - 1) w s
-  row-holds = stretch-holds (Q .hashed) (omega (arith, Q .arranged .count, Q .least)) (Q .low) (Q .found)
+  row-holds = stretch-holds (Q .sorted) (omega (arith, Q .arranged .count, Q .least)) (Q .low) (Q .found)
 
   abbrev B : ℕ
   B = bucketAround (reachOf v) v n ps (4 * K - 1) i r
@@ -268,8 +268,8 @@ module _ {v : ValidParams} {n : ℕ} {ps : List ℤ} {k i r along h marks mark m
     pub row-arranged : Arranged (geometryAt v n ps) (length (cells (geometryAt v n ps))) u
     row-arranged = subst (λ (x : ℕ). Arranged g x u) (Q .arranged .count) (subst (Arranged g k) (sym (I .laid)) (arranged-over g (15 * n + m) D (omega (arith, at-frames v n ps)) (omega (arith, Q .fit, Q .room)) (Q .arranged)))
 
-    pub row-hashed : Hashed v n ps u
-    row-hashed = subst (Hashed v n ps) (sym (I .laid)) (hashed-over (Q .rows .ready) (15 * n + m) D (omega (arith, Q .fit, Q .room)) (inr (omega arith)) (Q .hashed))
+    pub row-sorted : CellsSorted v n ps u
+    row-sorted = subst (CellsSorted v n ps) (sym (I .laid)) (cells-sorted-over (Q .rows .ready) (15 * n + m) D (omega (arith, Q .fit, Q .room)) (inr (omega arith)) (Q .sorted))
 
     -- the sorted cells and the marks lie below the list, so they are as they were
     as-before : stretch v n ps i r u marks mark from to ≡ X

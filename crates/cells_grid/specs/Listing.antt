@@ -61,5 +61,5 @@ module _ (v : ValidParams) (n : ℕ) (ps : List ℤ) where
   listOf c = found (reachOf v) v n ps cellBuckets (cellAt geo) (coreAt geo) (length (cells geo)) (cellAt geo c) (nearAt (cellAt geo c))
 
   -- the words hold the core cells by bucket: from 10n where those of each bucket end, from 14n the cells
-  abbrev pub Hashed : List ℕ → Type 0
-  Hashed w = Sorted cellKey (length (cells geo)) (4 * length (cells geo)) (10 * n) (14 * n) w
+  abbrev pub CellsSorted : List ℕ → Type 0
+  CellsSorted w = Sorted cellKey (length (cells geo)) (4 * length (cells geo)) (10 * n) (14 * n) w

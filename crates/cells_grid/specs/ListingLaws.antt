@@ -29,7 +29,7 @@ use Rattle.blocks.specs.RowLaws.{key-below, found-order}
 use Rattle.cells_grid.specs.Cells.{cells, listed, coreCell}
 use Rattle.cells_grid.specs.Arrangement.{cellAt}
 use Rattle.cells_grid.specs.ArrangementLaws.{cells-le, cell-at-below, listed-at}
-use Rattle.cells_grid.specs.Listing.{reachOf, coreAt, unmarked, sortedCount, cellKey, nearAt, nearIn, listIn, listOf, Hashed}
+use Rattle.cells_grid.specs.Listing.{reachOf, coreAt, unmarked, sortedCount, cellKey, nearAt, nearIn, listIn, listOf, CellsSorted}
 
 -- words laid over words that are 0, and made 0 again
 laid-cleared : (w : List ℕ) (a : ℕ) (ws : List ℕ) (m : ℕ) → m ≡ length ws → a + m ≤ length w → Clear w a m → over (over w a ws) a (replicate m 0) ≡ w
@@ -159,12 +159,12 @@ module _ {ps : List ℤ} {v : ValidParams} {n : ℕ} (r : Ready ps v n) where
       unmarked-cleared w l z = few-cleared w (unmarked u a m (listOf v n ps c)) unmarked-length l z
 
   -- words laid below or above the sorted cells keep them
-  pub hashed-over : {w : List ℕ} (b : ℕ) (ws : List ℕ) → b ≤ length w → (b + length ws ≤ 10 * n) ⊎ (15 * n ≤ b) → Hashed v n ps w → Hashed v n ps (over w b ws)
-  hashed-over b ws h (inl l) H = sorted-over H b ws (inr l) (inr (omega arith)) h
-  hashed-over b ws h (inr l) H = sorted-over H b ws (inl (omega (arith, few))) (inl (omega (arith, few))) h
+  pub cells-sorted-over : {w : List ℕ} (b : ℕ) (ws : List ℕ) → b ≤ length w → (b + length ws ≤ 10 * n) ⊎ (15 * n ≤ b) → CellsSorted v n ps w → CellsSorted v n ps (over w b ws)
+  cells-sorted-over b ws h (inl l) H = sorted-over H b ws (inr l) (inr (omega arith)) h
+  cells-sorted-over b ws h (inr l) H = sorted-over H b ws (inl (omega (arith, few))) (inl (omega (arith, few))) h
 
   -- ---- the cells as they stand sorted
-  module _ {w : List ℕ} (H : Hashed v n ps w) where
+  module _ {w : List ℕ} (H : CellsSorted v n ps w) where
     pub sorted-few : sortedCount w n (length (cells (geometryAt v n ps))) ≤ length (cells (geometryAt v n ps))
     sorted-few = omega (arith, begin-at H (4 * k - 1) (omega arith), start-le (cellKey v n ps) k (4 * k - 1))
 

@@ -36,7 +36,7 @@ fn width(v: ValidParams) -> u64
 }
 
 // Sorts all frames by the buckets of their blocks: after it `crowded` can be asked.
-pub fn hash_frames(points: &[i16], v: ValidParams, n: usize, work: &mut [Word])
+pub fn sort_frames(points: &[i16], v: ValidParams, n: usize, work: &mut [Word])
     requires { ⌜ Ready (now points) v n × (24 * n ≤ length (now work)) × Clear (now work) (14 * n) (10 * n) ⌝ }
     ensures { λ _. ⌜ now (work .exit) ≡ sortedBy (frameKey v n (now (points .entry))) n (8 * n) (16 * n) n (now (work .entry)) ⌝ }
 {

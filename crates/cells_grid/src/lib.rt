@@ -129,7 +129,7 @@ fn label_frames(points: &[i16], v: ValidParams, n: usize, k: usize, work: &mut [
 {
     // Every count is then known to be a signed 16-bit number, which `crowded` rests on.
     let read = counting_tree::points::read_counts(points);
-    crowding::hash_frames(points, v, n, work);
+    crowding::sort_frames(points, v, n, work);
     let mut i = 0;
     while i < n {
         let b = core_frame(points, v, n, work, k, i);

@@ -15,7 +15,7 @@ ghost use Rattle.blocks.specs.Blocks as Blocks;
 ghost use Rattle.blocks.specs.Blocks.{edgesOf, frameAt, rowHash, rowAround, sortedBy};
 ghost use Rattle.cells_grid.specs.Cells.{cells, coreCell};
 ghost use Rattle.cells_grid.specs.Arrangement.{cellAt, Arranged};
-ghost use Rattle.cells_grid.specs.Listing.{reachOf, sortedCount, cellKey, nearIn, unmarked, listIn, listOf, Hashed};
+ghost use Rattle.cells_grid.specs.Listing.{reachOf, sortedCount, cellKey, nearIn, unmarked, listIn, listOf, CellsSorted};
 
 // From 5n on: a word on the tree of each cell, 0 where it is no core cell.
 pub const TREES: usize = 5;
@@ -61,7 +61,7 @@ fn cell_key(points: &[i16], v: ValidParams, n: usize, k: usize, work: &[Word], c
 }
 
 // Sorts the core cells by the buckets of their first frames' blocks: after it `list_cells` and `list_unmarked` can be asked.
-pub fn hash_cells(points: &[i16], v: ValidParams, n: usize, k: usize, work: &mut [Word])
+pub fn sort_cells(points: &[i16], v: ValidParams, n: usize, k: usize, work: &mut [Word])
     requires { ⌜ Ready (now points) v n × Arranged (geometryAt v n (now points)) k (now work) × (16 * n ≤ length (now work)) × Clear (now work) (10 * n) (6 * n) ⌝ }
     requires { ⌜ ((c : ℕ) → c < k → nonzero (getD (now work) (5 * n + c) 0) ≡ coreCell (geometryAt v n (now points)) (cellAt (geometryAt v n (now points)) c)) ⌝ }
     ensures { λ _. ⌜ now (work .exit) ≡ sortedBy (cellKey v n (now (points .entry))) k (4 * k) (10 * n) n (now (work .entry)) ⌝ }
@@ -131,7 +131,7 @@ fn list_stretch(
     mark: usize,
 ) -> usize
     requires { ⌜ Ready (now points) v n × (i < n) × (first ≡ over (replicate 4 0) 0 (edgesOf (Blocks.width (reachOf v)) (reachOf v) (frameAt (reachOf v) v n (now points) i))) × Below 65536 first ⌝ }
-    requires { ⌜ Arranged (geometryAt v n (now points)) (length (cells (geometryAt v n (now points)))) (now work) × Hashed v n (now points) (now work) × (16 * n ≤ length (now work)) × (marks + n ≤ 10 * n) ⌝ }
+    requires { ⌜ Arranged (geometryAt v n (now points)) (length (cells (geometryAt v n (now points)))) (now work) × CellsSorted v n (now points) (now work) × (16 * n ≤ length (now work)) × (marks + n ≤ 10 * n) ⌝ }
     requires { ⌜ (from ≤ end) × (end ≤ length (cells (geometryAt v n (now points)))) × (m + length (unmarked (now work) marks mark (keep (nearIn v n (now points) i r) (part (now work) (14 * n + from) (end - from)))) ≤ n) ⌝ }
     ensures { λ s. ⌜ s ≡ m + length (unmarked (now (work .entry)) marks mark (keep (nearIn v n (now (points .entry)) i r) (part (now (work .entry)) (14 * n + from) (end - from)))) ⌝ }
     ensures { λ _. ⌜ now (work .exit) ≡ over (now (work .entry)) (15 * n + m) (unmarked (now (work .entry)) marks mark (keep (nearIn v n (now (points .entry)) i r) (part (now (work .entry)) (14 * n + from) (end - from)))) ⌝ }
@@ -169,7 +169,7 @@ fn list_row(
     mark: usize,
 ) -> usize
     requires { ⌜ Ready (now points) v n × (i < n) × (first ≡ over (replicate 4 0) 0 (edgesOf (Blocks.width (reachOf v)) (reachOf v) (frameAt (reachOf v) v n (now points) i))) × Below 65536 first ⌝ }
-    requires { ⌜ Arranged (geometryAt v n (now points)) k (now work) × Hashed v n (now points) (now work) × (16 * n ≤ length (now work)) × (marks + n ≤ 10 * n) ⌝ }
+    requires { ⌜ Arranged (geometryAt v n (now points)) k (now work) × CellsSorted v n (now points) (now work) × (16 * n ≤ length (now work)) × (marks + n ≤ 10 * n) ⌝ }
     requires { ⌜ (0 < k) × (h ≡ rowHash (rowAround (reachOf v) v n (now points) i r)) × (along ≡ getD first 0 0 / Blocks.width (reachOf v)) × (m + length (unmarked (now work) marks mark (listIn v n (now points) i r)) ≤ n) ⌝ }
     ensures { λ s. ⌜ s ≡ m + length (unmarked (now (work .entry)) marks mark (listIn v n (now (points .entry)) i r)) ⌝ }
     ensures { λ _. ⌜ now (work .exit) ≡ over (now (work .entry)) (15 * n + m) (unmarked (now (work .entry)) marks mark (listIn v n (now (points .entry)) i r)) ⌝ }
@@ -201,7 +201,7 @@ pub fn list_unmarked(
     marks: usize,
     mark: usize,
 ) -> usize
-    requires { ⌜ Ready (now points) v n × Arranged (geometryAt v n (now points)) k (now work) × Hashed v n (now points) (now work) × (c < k) × (16 * n ≤ length (now work)) × (marks + n ≤ 10 * n) ⌝ }
+    requires { ⌜ Ready (now points) v n × Arranged (geometryAt v n (now points)) k (now work) × CellsSorted v n (now points) (now work) × (c < k) × (16 * n ≤ length (now work)) × (marks + n ≤ 10 * n) ⌝ }
     ensures { λ s. ⌜ s ≡ length (unmarked (now (work .entry)) marks mark (listOf v n (now (points .entry)) c)) ⌝ }
     ensures { λ _. ⌜ now (work .exit) ≡ over (now (work .entry)) (15 * n) (unmarked (now (work .entry)) marks mark (listOf v n (now (points .entry)) c)) ⌝ }
 {
@@ -244,7 +244,7 @@ pub fn list_cells(
     work: &mut [Word],
     c: usize,
 ) -> usize
-    requires { ⌜ Ready (now points) v n × Arranged (geometryAt v n (now points)) k (now work) × Hashed v n (now points) (now work) × (c < k) × (16 * n ≤ length (now work)) ⌝ }
+    requires { ⌜ Ready (now points) v n × Arranged (geometryAt v n (now points)) k (now work) × CellsSorted v n (now points) (now work) × (c < k) × (16 * n ≤ length (now work)) ⌝ }
     ensures { λ r. ⌜ r ≡ length (listOf v n (now (points .entry)) c) ⌝ }
     ensures { λ _. ⌜ now (work .exit) ≡ over (now (work .entry)) (15 * n) (listOf v n (now (points .entry)) c) ⌝ }
 {

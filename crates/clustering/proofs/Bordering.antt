@@ -18,7 +18,7 @@ use Rattle.counting_tree.specs.Geometry.{Geometry}
 use Rattle.counting_tree.specs.Ready.{geometryAt, Ready}
 use Rattle.cells_grid.specs.Cells.{cells, cellNumber, listed, count}
 use Rattle.cells_grid.specs.Arrangement.{cellAt, Arranged}
-use Rattle.cells_grid.specs.Listing.{listOf, Hashed}
+use Rattle.cells_grid.specs.Listing.{listOf, CellsSorted}
 use Rattle.cells_grid.specs.ListingLaws.{list-sound, list-complete, list-length, list-cleared}
 use Rattle.core_cells.specs.Forest.{Grown}
 use Rattle.core_cells.specs.ForestLaws.{grown-over}
@@ -30,7 +30,7 @@ abbrev pub counts : Geometry → ℕ → ℕ → Bool
 counts g i c = nonzero (count g i (cellAt g c))
 
 module _ {ps : List ℤ} {v : ValidParams} {n k : ℕ} {w : List ℕ} {i : ℕ}
-    (s : (Ready ps v n × Grown (geometryAt v n ps) k w × (i < n)) × (Hashed v n ps w × Clear w (15 * n) n × (16 * n ≤ length w))) {own : ℕ} (eo : own ≡ getD w i 0) where
+    (s : (Ready ps v n × Grown (geometryAt v n ps) k w × (i < n)) × (CellsSorted v n ps w × Clear w (15 * n) n × (16 * n ≤ length w))) {own : ℕ} (eo : own ≡ getD w i 0) where
   abbrev g : Geometry
   g = geometryAt v n ps
 
@@ -49,7 +49,7 @@ module _ {ps : List ℤ} {v : ValidParams} {n k : ℕ} {w : List ℕ} {i : ℕ}
   own-cell : own < length (cells g)
   own-cell = omega (arith, own-is, own-below r gr i (s .0 .2), cell-count r gr)
 
-  pub can-list : Ready ps v n × Arranged g k w × Hashed v n ps w × (own < k) × (16 * n ≤ length w)
+  pub can-list : Ready ps v n × Arranged g k w × CellsSorted v n ps w × (own < k) × (16 * n ≤ length w)
   can-list = (r, gr .cored .cells, s .1 .0, omega (arith, own-cell, cell-count r gr), s .1 .2)
 
   abbrev near : ℕ → Bool

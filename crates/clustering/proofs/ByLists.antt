@@ -22,8 +22,8 @@ use Rattle.counting_tree.specs.Geometry.{Geometry}
 use Rattle.counting_tree.specs.Ready.{geometryAt, Ready}
 use Rattle.cells_grid.specs.Cells.{cells, coreCell}
 use Rattle.cells_grid.specs.Arrangement.{cellAt, Arranged}
-use Rattle.cells_grid.specs.Listing.{unmarked, listOf, Hashed}
-use Rattle.cells_grid.specs.ListingLaws.{in-unmarked, list-sound, unmarked-length, unmarked-cleared, hashed-over}
+use Rattle.cells_grid.specs.Listing.{unmarked, listOf, CellsSorted}
+use Rattle.cells_grid.specs.ListingLaws.{in-unmarked, list-sound, unmarked-length, unmarked-cleared, cells-sorted-over}
 use Rattle.core_cells.specs.Forest.{Grown}
 use Rattle.core_cells.specs.ForestLaws.{grown-over}
 use Rattle.partitions.specs.Leaders.{Falling, root, shorten}
@@ -172,7 +172,7 @@ rowOf v n ps c p = pairsWith (geometryAt v n ps) c (unlike p c (listOf v n ps c)
 
 pub record Rows (v : ValidParams) (n : ℕ) (ps : List ℤ) (k : ℕ) (w₀ w : List ℕ) (c : ℕ) : Type 0 where
   pub leading : Leading (geometryAt v n ps) n k w₀ w
-  pub hashed : Hashed v n ps w
+  pub sorted : CellsSorted v n ps w
   pub clear : Clear w (15 * n) n
   pub high : c ≤ k
   pub goes : leftBy v n ps (numbers k) (part w₀ (6 * n) k) ≡ leftBy v n ps (rest k c) (part w (6 * n) k)
@@ -180,7 +180,7 @@ pub record Rows (v : ValidParams) (n : ℕ) (ps : List ℤ) (k : ℕ) (w₀ w : 
 -- and with c's leader x looked for
 pub record Found (v : ValidParams) (n : ℕ) (ps : List ℤ) (k : ℕ) (w₀ w : List ℕ) (c x : ℕ) : Type 0 where
   pub leading : Leading (geometryAt v n ps) n k w₀ w
-  pub hashed : Hashed v n ps w
+  pub sorted : CellsSorted v n ps w
   pub clear : Clear w (15 * n) n
   pub cell : c < k
   pub leads : x ≡ getD (part w (6 * n) k) c 0
@@ -191,10 +191,10 @@ module _ {ps : List ℤ} {v : ValidParams} {n : ℕ} (r : Ready ps v n) {k : ℕ
   abbrev g : Geometry
   g = geometryAt v n ps
 
-  pub rows-start : Hashed v n ps w₀ → 16 * n ≤ length w₀ → Clear w₀ (15 * n) n → Falling (part w₀ (6 * n) k) → Rows v n ps k w₀ w₀ 0
+  pub rows-start : CellsSorted v n ps w₀ → 16 * n ≤ length w₀ → Clear w₀ (15 * n) n → Falling (part w₀ (6 * n) k) → Rows v n ps k w₀ w₀ 0
   rows-start H l z f = record {
     leading = leading-start r gr l f;
-    hashed = H;
+    sorted = H;
     clear = z;
     high = omega arith;
     goes = ap (λ (cs : List ℕ). leftBy v n ps cs (part w₀ (6 * n) k)) (sym (rest-start k));
@@ -238,7 +238,7 @@ module _ {ps : List ℤ} {v : ValidParams} {n : ℕ} (r : Ready ps v n) {k : ℕ
           let low : 6 * n + length q ≤ 10 * n = omega (arith, s .size, led .few) in
           record {
             leading = leading-on led s e;
-            hashed = subst (Hashed v n ps) (sym e) (hashed-over r (6 * n) q (omega (arith, room)) (inl low) (i .hashed));
+            sorted = subst (CellsSorted v n ps) (sym e) (cells-sorted-over r (6 * n) q (omega (arith, room)) (inl low) (i .sorted));
             clear = subst (λ (y : List ℕ). Clear y (15 * n) n) (sym e) (clear-after w (15 * n) n (6 * n) q (omega (arith, room)) (omega arith) (i .clear));
             cell = h;
             leads = ex
@@ -272,7 +272,7 @@ module _ {ps : List ℤ} {v : ValidParams} {n : ℕ} (r : Ready ps v n) {k : ℕ
     unfolding meetAll
     rows-skip f = record {
       leading = L;
-      hashed = i .hashed;
+      sorted = i .sorted;
       clear = i .clear;
       high = omega (arith, i .cell);
       goes = i .goes ∙ ap (λ (xs : List (ℕ × ℕ)). leftBy v n ps (rest k (c + 1)) (left g xs p)) (with-none g c (unlike p c all) (tree ∙ f));
@@ -280,8 +280,8 @@ module _ {ps : List ℤ} {v : ValidParams} {n : ℕ} (r : Ready ps v n) {k : ℕ
 
     -- ---- c has a tree
     module _ (t : a ≡ true) where
-      pub can-list : Ready ps v n × Arranged g k w × Hashed v n ps w × (c < k) × (16 * n ≤ length w) × (6 * n + n ≤ 10 * n)
-      can-list = (r, L .grown .cored .cells, i .hashed, i .cell, omega (arith, L .room, L .size), omega arith)
+      pub can-list : Ready ps v n × Arranged g k w × CellsSorted v n ps w × (c < k) × (16 * n ≤ length w) × (6 * n + n ≤ 10 * n)
+      can-list = (r, L .grown .cored .cells, i .sorted, i .cell, omega (arith, L .room, L .size), omega arith)
 
       abbrev ds : List ℕ
       ds = unmarked w (6 * n) x all
@@ -356,7 +356,7 @@ module _ {ps : List ℤ} {v : ValidParams} {n : ℕ} (r : Ready ps v n) {k : ℕ
               ∙ unmarked-cleared r c is-one w (6 * n) x (over w (6 * n) after) (omega (arith, size-u, L .room, L .size)) z in
               record {
                 leading = leading-on L after-stand e;
-                hashed = subst (Hashed v n ps) (sym e) (hashed-over r (6 * n) after fit (inl (omega (arith, after-stand .size, L .few))) (i .hashed));
+                sorted = subst (CellsSorted v n ps) (sym e) (cells-sorted-over r (6 * n) after fit (inl (omega (arith, after-stand .size, L .few))) (i .sorted));
                 clear = subst (λ (y : List ℕ). Clear y (15 * n) n) (sym e) z;
                 high = omega (arith, i .cell);
                 goes = i .goes ∙ ap (leftBy v n ps (rest k (c + 1))) (sym (leaders-now L after-stand e));

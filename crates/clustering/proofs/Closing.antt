@@ -24,7 +24,7 @@ use Rattle.counting_tree.specs.Domain.{Counts}
 use Rattle.counting_tree.specs.Ready.{geometryAt, Ready}
 use Rattle.cells_grid.specs.Cells.{core}
 use Rattle.cells_grid.specs.Arrangement.{cellAt}
-use Rattle.cells_grid.specs.Listing.{sortedCount, Hashed}
+use Rattle.cells_grid.specs.Listing.{sortedCount, CellsSorted}
 use Rattle.cells_grid.specs.ListingLaws.{sorted-few, sorted-cell}
 use Rattle.core_cells.specs.Forest.{Grown}
 use Rattle.partitions.specs.Leaders.{Falling, root, shortenBoth, united}
@@ -148,10 +148,10 @@ module _ (v : ValidParams) (n : ℕ) (ps : List ℤ) (k : ℕ) (w₀ : List ℕ)
     pub goes : left (geometryAt v n ps) (closePairs v n ps zs) (part w₀ (6 * n) k) ≡ left (geometryAt v n ps) (closeTurns v n ps zs (rest turns q)) (part w (6 * n) k)
 
 -- the sorted core cells are cells
-pub sorted-low : {ps : List ℤ} {v : ValidParams} {n : ℕ} (r : Ready ps v n) {k : ℕ} {w : List ℕ} (gr : Grown (geometryAt v n ps) k w) → Hashed v n ps w → sortedCount w n k ≤ k
+pub sorted-low : {ps : List ℤ} {v : ValidParams} {n : ℕ} (r : Ready ps v n) {k : ℕ} {w : List ℕ} (gr : Grown (geometryAt v n ps) k w) → CellsSorted v n ps w → sortedCount w n k ≤ k
 sorted-low {n = n} r {k} {w} gr H = subst (λ (k : ℕ). sortedCount w n k ≤ k) (sym (cell-count r gr)) (sorted-few r H)
 
-pub turns-start : {ps : List ℤ} {v : ValidParams} {n : ℕ} (r : Ready ps v n) {k : ℕ} {w : List ℕ} (gr : Grown (geometryAt v n ps) k w) → Hashed v n ps w → 16 * n ≤ length w
+pub turns-start : {ps : List ℤ} {v : ValidParams} {n : ℕ} (r : Ready ps v n) {k : ℕ} {w : List ℕ} (gr : Grown (geometryAt v n ps) k w) → CellsSorted v n ps w → 16 * n ≤ length w
     → Falling (part w (6 * n) k) → {q : ℕ} → q ≡ back * back → Turns v n ps k w w q
 unfolding closePairs
 turns-start {ps} {v} {n} r {k} {w} gr H l f {q} e =

@@ -17,8 +17,8 @@ use Rattle.hyperparams.specs.declared.ValidParams.{ValidParams}
 use Rattle.counting_tree.specs.Geometry.{Geometry}
 use Rattle.counting_tree.specs.Ready.{geometryAt, Ready}
 use Rattle.cells_grid.specs.Cells.{cells}
-use Rattle.cells_grid.specs.Listing.{sortedCount, listOf, Hashed}
-use Rattle.cells_grid.specs.ListingLaws.{hashed-over, sorted-cell}
+use Rattle.cells_grid.specs.Listing.{sortedCount, listOf, CellsSorted}
+use Rattle.cells_grid.specs.ListingLaws.{cells-sorted-over, sorted-cell}
 use Rattle.core_cells.specs.Forest.{Grown}
 use Rattle.core_cells.specs.ForestLaws.{grown-over}
 use Rattle.partitions.specs.Leaders.{Falling, root}
@@ -122,12 +122,12 @@ module _ {ps : List ℤ} {v : ValidParams} {n : ℕ} (r : Ready ps v n) {k : ℕ
       tried-stand = as-lowest .sets
 
     -- ---- the close pairs, and then all pairs by lists
-    module _ (H : Hashed v n ps w) (wide : 16 * n ≤ length w) (z : Clear w (15 * n) n) where
-      hashed-first : Hashed v n ps w₁
-      hashed-first = subst (Hashed v n ps) (sym first) (hashed-over r (6 * n) q (omega arith) (inl (omega (arith, size, few))) H)
+    module _ (H : CellsSorted v n ps w) (wide : 16 * n ≤ length w) (z : Clear w (15 * n) n) where
+      sorted-first : CellsSorted v n ps w₁
+      sorted-first = subst (CellsSorted v n ps) (sym first) (cells-sorted-over r (6 * n) q (omega arith) (inl (omega (arith, size, few))) H)
 
-      pub can-unite-close : (Ready ps v n × Grown g k w₁ × Hashed v n ps w₁) × ((16 * n ≤ length w₁) × Falling (part w₁ (6 * n) k))
-      can-unite-close = ((r, grown-first, hashed-first), (omega (arith, same-first), falling-first))
+      pub can-unite-close : (Ready ps v n × Grown g k w₁ × CellsSorted v n ps w₁) × ((16 * n ≤ length w₁) × Falling (part w₁ (6 * n) k))
+      can-unite-close = ((r, grown-first, sorted-first), (omega (arith, same-first), falling-first))
 
       -- the close pairs are some of all pairs
       abbrev close : List (ℕ × ℕ)
@@ -138,9 +138,9 @@ module _ {ps : List ℤ} {v : ValidParams} {n : ℕ} (r : Ready ps v n) {k : ℕ
         where
           low : (p : ℕ) → p < length (sortedCells w₁ n k) → getD (sortedCells w₁ n k) p 0 < length (cells g)
           low p h =
-              let m = sorted-low r grown-first hashed-first in
+              let m = sorted-low r grown-first sorted-first in
               let l : p < sortedCount w₁ n k = omega (arith, part-length w₁ (14 * n) (sortedCount w₁ n k) (omega (arith, few, same-first))) in
-              omega (arith, part-at w₁ (14 * n) (sortedCount w₁ n k) p l, sorted-cell r hashed-first p (omega (arith, cell-count r gr)))
+              omega (arith, part-at w₁ (14 * n) (sortedCount w₁ n k) p l, sorted-cell r sorted-first p (omega (arith, cell-count r gr)))
 
       -- what they leave of the leaders
       abbrev C : List ℕ
@@ -172,12 +172,12 @@ module _ {ps : List ℤ} {v : ValidParams} {n : ℕ} (r : Ready ps v n) {k : ℕ
             (subst (λ (m : ℕ). Stands m (lowestAt g (n * n)) (meetLists g (touchAt g) (listOf v n ps) (numbers m) (meetAll byOwnLeaders (touchAt g) close (column (λ c. c) m)))) (sym (cell-count r gr))
             (lists-stand g (listOf v n ps) (list-listed r) (n * n) (mul-le-mul l l) close close-some))
 
-        pub can-unite-lists : (Ready ps v n × Grown g k u × Hashed v n ps u) × ((16 * n ≤ length u) × Clear u (15 * n) n × Falling (part u (6 * n) k))
+        pub can-unite-lists : (Ready ps v n × Grown g k u × CellsSorted v n ps u) × ((16 * n ≤ length u) × Clear u (15 * n) n × Falling (part u (6 * n) k))
         can-unite-lists = (
           (
             r,
             subst (Grown g k) (sym close-laid) (grown-over gr (frames r gr) (6 * n) C (omega arith) (omega (arith, close-size, few)) (omega arith)),
-            subst (Hashed v n ps) (sym close-laid) (hashed-over r (6 * n) C (omega arith) (inl (omega (arith, close-size, few))) H),
+            subst (CellsSorted v n ps) (sym close-laid) (cells-sorted-over r (6 * n) C (omega arith) (inl (omega (arith, close-size, few))) H),
           ),
           (
             omega (arith, same-close),

@@ -15,19 +15,19 @@ use Rattle.counting_tree.specs.Ready.{geometryAt, Ready}
 use Rattle.blocks.specs.Blocks.{sortedBy}
 use Rattle.blocks.specs.SortedLaws.{places-long, ends-long, sorted-length, sorted-after, sorted-under, sorted-cleared}
 use Rattle.cells_grid.specs.Cells.{cells}
-use Rattle.cells_grid.specs.Listing.{cellKey, Hashed}
-use Rattle.cells_grid.specs.ListingLaws.{few, cell-key-below, hashed-over}
+use Rattle.cells_grid.specs.Listing.{cellKey, CellsSorted}
+use Rattle.cells_grid.specs.ListingLaws.{few, cell-key-below, cells-sorted-over}
 use Rattle.core_cells.specs.Forest.{Grown}
 use Rattle.core_cells.specs.ForestLaws.{grown-over}
 use Rattle.clustering.proofs.Held.{frames}
 
 -- cells, their trees, the cells sorted, and room for a list
 abbrev pub CanSearch : List ℤ → ValidParams → ℕ → ℕ → List ℕ → Type 0
-CanSearch ps v n k w = Grown (geometryAt v n ps) k w × (Hashed v n ps w × Clear w (15 * n) n × (16 * n ≤ length w))
+CanSearch ps v n k w = Grown (geometryAt v n ps) k w × (CellsSorted v n ps w × Clear w (15 * n) n × (16 * n ≤ length w))
 
 -- the words w with the cells sorted
-abbrev pub hashed : List ℤ → ValidParams → ℕ → List ℕ → List ℕ
-hashed ps v n w = let k = length (cells (geometryAt v n ps)) in sortedBy (cellKey v n ps) k (4 * k) (10 * n) n w
+abbrev pub sorted : List ℤ → ValidParams → ℕ → List ℕ → List ℕ
+sorted ps v n w = let k = length (cells (geometryAt v n ps)) in sortedBy (cellKey v n ps) k (4 * k) (10 * n) n w
 
 -- where those of each bucket end stands before them
 before : {ps : List ℤ} {v : ValidParams} {n : ℕ} → Ready ps v n → Apart (14 * n) (2 * n) (10 * n) (4 * length (cells (geometryAt v n ps)))
@@ -39,13 +39,13 @@ module _ {ps : List ℤ} {v : ValidParams} {n : ℕ} (r : Ready ps v n) {k : ℕ
       let f : b ≤ length w = omega (arith, s .1 .2) in (
         grown-over (s .0) (frames r (s .0)) b ws h (omega arith) f,
         (
-          hashed-over r b ws f (inl l) (s .1 .0),
+          cells-sorted-over r b ws f (inl l) (s .1 .0),
           clear-after w (15 * n) n b ws f (omega arith) (s .1 .1),
           omega (arith, over-length w b ws (omega (arith, s .1 .2)), s .1 .2),
         ),
       )
 
-  pub search-start : {w : List ℕ} → Grown (geometryAt v n ps) k w → 16 * n ≤ length w → Clear w (10 * n) (6 * n) → CanSearch ps v n k (hashed ps v n w)
+  pub search-start : {w : List ℕ} → Grown (geometryAt v n ps) k w → 16 * n ≤ length w → Clear w (10 * n) (6 * n) → CanSearch ps v n k (sorted ps v n w)
   unfolding sortedBy
   search-start {w} gr l z =
       let key = cellKey v n ps in
@@ -66,23 +66,23 @@ module _ {ps : List ℤ} {v : ValidParams} {n : ℕ} (r : Ready ps v n) {k : ℕ
       )
 
 -- x is the words w with the cells sorted over words that are 0
-pub record HashedOn (ps : List ℤ) (v : ValidParams) (n : ℕ) (w x : List ℕ) : Type 0 where
+pub record SortedOn (ps : List ℤ) (v : ValidParams) (n : ℕ) (w x : List ℕ) : Type 0 where
   pub room : 16 * n ≤ length w
   pub clear : Clear w (10 * n) (6 * n)
-  pub laid : x ≡ hashed ps v n w
+  pub laid : x ≡ sorted ps v n w
 
-module _ {ps : List ℤ} {v : ValidParams} {n : ℕ} (r : Ready ps v n) {w x : List ℕ} (s : HashedOn ps v n w x) where
+module _ {ps : List ℤ} {v : ValidParams} {n : ℕ} (r : Ready ps v n) {w x : List ℕ} (s : SortedOn ps v n w x) where
   abbrev m : ℕ
   m = length (cells (geometryAt v n ps))
 
-  pub hashed-on-over : (b : ℕ) (ws : List ℕ) → b + length ws ≤ 10 * n → HashedOn ps v n (over w b ws) (over x b ws)
-  hashed-on-over b ws h = record {
+  pub sorted-on-over : (b : ℕ) (ws : List ℕ) → b + length ws ≤ 10 * n → SortedOn ps v n (over w b ws) (over x b ws)
+  sorted-on-over b ws h = record {
     room = omega (arith, s .room, over-length w b ws (omega (arith, s .room)));
     clear = clear-after w (10 * n) (6 * n) b ws (omega (arith, s .room)) h (s .clear);
     laid = ap (λ (z : List ℕ). over z b ws) (s .laid) ∙ sorted-under (cellKey v n ps) m (4 * m) (10 * n) n (few r) (before r) (cell-key-below r) w (s .room) (omega (arith, few r, s .room)) b ws (omega arith) h;
   }
 
-  pub hashed-on-cleared : over x (10 * n) (replicate (5 * n) 0) ≡ w
-  hashed-on-cleared = ap (λ (z : List ℕ). over z (10 * n) (replicate (5 * n) 0)) (s .laid)
+  pub sorted-on-cleared : over x (10 * n) (replicate (5 * n) 0) ≡ w
+  sorted-on-cleared = ap (λ (z : List ℕ). over z (10 * n) (replicate (5 * n) 0)) (s .laid)
       ∙ sorted-cleared (cellKey v n ps) m (4 * m) (10 * n) n (few r) (before r) (cell-key-below r) w (s .room) (omega (arith, few r, s .room)) (10 * n) (5 * n) (omega arith) (omega arith) (omega arith) (omega (arith, few r)) (omega (arith, s .room))
       (clear-within w (10 * n) (6 * n) (10 * n) (5 * n) (s .clear) (omega arith) (omega arith))

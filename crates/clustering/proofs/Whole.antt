@@ -18,7 +18,7 @@ use Rattle.counting_tree.specs.Ready.{geometryAt, Ready}
 use Rattle.blocks.specs.Blocks.{sortedBy}
 use Rattle.cells_grid.specs.Cells.{coreCell}
 use Rattle.cells_grid.specs.Arrangement.{cellAt}
-use Rattle.cells_grid.specs.Listing.{cellKey, Hashed}
+use Rattle.cells_grid.specs.Listing.{cellKey, CellsSorted}
 use Rattle.core_cells.specs.Forest.{Grown}
 use Rattle.clustering.specs.Clusters.{place, clusters, labelBy, kindOf}
 use Rattle.clustering.specs.Uniting.{uniting, lowestAt}
@@ -26,7 +26,7 @@ use Rattle.clustering.specs.UnitingLaws.{uniting-finishes, lowest-led, c
 use Rattle.clustering.specs.Numbering.{coreIn, lowestIn, Led, leads, numberBy, clusterWord}
 use Rattle.clustering.specs.NumberingLaws.{led-same, leads-same, number-same}
 use Rattle.clustering.proofs.Held.{lawful, cell-count, few-cells, tree-held}
-use Rattle.clustering.proofs.Searching.{CanSearch, HashedOn, hashed, search-start, search-over, hashed-on-over, hashed-on-cleared}
+use Rattle.clustering.proofs.Searching.{CanSearch, SortedOn, sorted, search-start, search-over, sorted-on-over, sorted-on-cleared}
 
 module _ {ps : List ℤ} {v : ValidParams} {n : ℕ} (r : Ready ps v n) {k : ℕ} {w : List ℕ} (gr : Grown (geometryAt v n ps) k w) (l : 16 * n ≤ length w) (cl : Clear w (10 * n) (6 * n)) where
   abbrev g : Geometry
@@ -49,7 +49,7 @@ module _ {ps : List ℤ} {v : ValidParams} {n : ℕ} (r : Ready ps v n) {k : ℕ
 
   -- ---- sorted
   module _ {w₀ : List ℕ} (e₀ : w₀ ≡ sortedBy (cellKey v n ps) k (4 * k) (10 * n) n w) where
-    sorted₀ : w₀ ≡ hashed ps v n w
+    sorted₀ : w₀ ≡ sorted ps v n w
     sorted₀ = e₀ ∙ ap (λ (m : ℕ). sortedBy (cellKey v n ps) m (4 * m) (10 * n) n w) (cell-count r gr)
 
     pub search₀ : CanSearch ps v n k w₀
@@ -88,7 +88,7 @@ module _ {ps : List ℤ} {v : ValidParams} {n : ℕ} (r : Ready ps v n) {k : ℕ
         search₂ = subst (CanSearch ps v n k) (sym laid₂) (search-over r (7 * n) numbered (omega arith) (omega (arith, length-numbers (clusterWord g) k, few)) search₁)
 
         pub can-label : {m : ℕ} → m ≡ howMany (leads (coreIn w₁ n) (lowestIn w₁ n)) (numbers k)
-            → (Ready ps v n × Grown g k w₂) × ((Hashed v n ps w₂ × Clear w₂ (15 * n) n × (16 * n ≤ length w₂)) × ((m ≡ length (clusters g)) × (part w₂ (7 * n) k ≡ numbered)))
+            → (Ready ps v n × Grown g k w₂) × ((CellsSorted v n ps w₂ × Clear w₂ (15 * n) n × (16 * n ≤ length w₂)) × ((m ≡ length (clusters g)) × (part w₂ (7 * n) k ≡ numbered)))
         can-label e = (
           (r, search₂ .0),
           (search₂ .1, (clusters-counted e, ap (λ (z : List ℕ). part z (7 * n) k) laid₂ ∙ part-same w₁ (7 * n) k numbered (omega (arith, search₁ .1 .2)) (length-numbers (clusterWord g) k))),
@@ -109,10 +109,10 @@ module _ {ps : List ℤ} {v : ValidParams} {n : ℕ} (r : Ready ps v n) {k : ℕ
           all-laid =
               e₃ ∙ ap (λ (z : List ℕ). over (over z (8 * n) labels) (9 * n) kinds) (laid₂ ∙ ap (λ (z : List ℕ). over z (7 * n) numbered) e₁)
 
-          hashed-on : HashedOn ps v n (all w) w₃
-          hashed-on =
-              subst (HashedOn ps v n (all w)) (sym all-laid)
-              (hashed-on-over r (hashed-on-over r (hashed-on-over r (hashed-on-over r (record { room = l; clear = cl; laid = sorted₀ })
+          sorted-on : SortedOn ps v n (all w) w₃
+          sorted-on =
+              subst (SortedOn ps v n (all w)) (sym all-laid)
+              (sorted-on-over r (sorted-on-over r (sorted-on-over r (sorted-on-over r (record { room = l; clear = cl; laid = sorted₀ })
               (6 * n) (column low k) (omega (arith, length-numbers low k, few)))
               (7 * n) numbered (omega (arith, length-numbers (clusterWord g) k, few)))
               (8 * n) labels (omega (arith, length-numbers (labelBy g (λ c. place c (clusters g))) n)))
@@ -126,4 +126,4 @@ module _ {ps : List ℤ} {v : ValidParams} {n : ℕ} (r : Ready ps v n) {k : ℕ
 
           -- ---- cleared
           pub all-cleared : {w₄ : List ℕ} → w₄ ≡ over w₃ (10 * n) (replicate (5 * n) 0) → w₄ ≡ all w
-          all-cleared e = e ∙ hashed-on-cleared r hashed-on
+          all-cleared e = e ∙ sorted-on-cleared r sorted-on

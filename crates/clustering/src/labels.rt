@@ -15,7 +15,7 @@ ghost use Rattle.lists.specs.Words.{over, part, column, Clear};
 ghost use Rattle.hyperparams.specs.Params.{maxFrames};
 ghost use Rattle.counting_tree.specs.Ready.{geometryAt, Ready};
 ghost use Rattle.cells_grid.specs.Cells.{cellNumber};
-ghost use Rattle.cells_grid.specs.Listing.{Hashed};
+ghost use Rattle.cells_grid.specs.Listing.{CellsSorted};
 ghost use Rattle.core_cells.specs.Forest.{Grown};
 ghost use Rattle.clustering.specs.Clusters.{place, clusters, labelBy, kindOf};
 ghost use Rattle.clustering.specs.Numbering.{coreIn, lowestIn, Led, leads, numberBy, clusterWord, bordersAt};
@@ -65,7 +65,7 @@ fn border_cell(
     i: usize,
 ) -> usize
     requires { ⌜ Ready (now points) v n × Grown (geometryAt v n (now points)) k (now work) × (i < n) ⌝ }
-    requires { ⌜ Hashed v n (now points) (now work) × Clear (now work) (15 * n) n × (16 * n ≤ length (now work)) ⌝ }
+    requires { ⌜ CellsSorted v n (now points) (now work) × Clear (now work) (15 * n) n × (16 * n ≤ length (now work)) ⌝ }
     ensures cell { λ r. ⌜ (let g = geometryAt v n (now (points .entry)) in r ≡ headOr k (keep (bordersAt g (cellNumber g i) i) (numbers k))) ⌝ }
     ensures low { λ r. ⌜ r ≤ k ⌝ }
     ensures work { λ _. ⌜ now (work .exit) ≡ now (work .entry) ⌝ }
@@ -105,7 +105,7 @@ pub fn label_frame(
     i: usize,
 ) -> FrameLabel
     requires { ⌜ Ready (now points) v n × Grown (geometryAt v n (now points)) k (now work) × (i < n) ⌝ }
-    requires { ⌜ Hashed v n (now points) (now work) × Clear (now work) (15 * n) n × (16 * n ≤ length (now work)) ⌝ }
+    requires { ⌜ CellsSorted v n (now points) (now work) × Clear (now work) (15 * n) n × (16 * n ≤ length (now work)) ⌝ }
     requires { ⌜ (m ≡ length (clusters (geometryAt v n (now points)))) × (part (now work) (7 * n) k ≡ column (clusterWord (geometryAt v n (now points))) k) ⌝ }
     ensures label { λ r. ⌜ (let g = geometryAt v n (now (points .entry)) in r .label ≡ labelBy g (λ c. place c (clusters g)) i) ⌝ }
     ensures kind { λ r. ⌜ r .kind ≡ kindOf (geometryAt v n (now (points .entry))) i ⌝ }
@@ -142,7 +142,7 @@ pub fn label_frame(
 // Writes the label and the kind of each frame, where there are m clusters.
 pub fn label_frames(points: &[i16], v: ValidParams, n: usize, k: usize, work: &mut [Word], m: usize)
     requires { ⌜ Ready (now points) v n × Grown (geometryAt v n (now points)) k (now work) ⌝ }
-    requires { ⌜ Hashed v n (now points) (now work) × Clear (now work) (15 * n) n × (16 * n ≤ length (now work)) ⌝ }
+    requires { ⌜ CellsSorted v n (now points) (now work) × Clear (now work) (15 * n) n × (16 * n ≤ length (now work)) ⌝ }
     requires { ⌜ (m ≡ length (clusters (geometryAt v n (now points)))) × (part (now work) (7 * n) k ≡ column (clusterWord (geometryAt v n (now points))) k) ⌝ }
     ensures { λ _. ⌜ (let g = geometryAt v n (now (points .entry)) in now (work .exit) ≡ over (over (now (work .entry))
         (8 * n) (column (labelBy g (λ c. place c (clusters g))) n))

@@ -42,7 +42,7 @@ pub fn label(points: &[i16], v: ValidParams, n: usize, k: usize, work: &mut [Wor
         (8 * n) (column (labelBy g (λ c. place c (clusters g))) n))
         (9 * n) (column (kindOf g) n)) ⌝ }
 {
-    cells_grid::listing::hash_cells(points, v, n, k, work);
+    cells_grid::listing::sort_cells(points, v, n, k, work);
     uniting::unite_listed_cells(points, v, n, k, work);
     let m = labels::number_clusters(work, n, k);
     labels::label_frames(points, v, n, k, work, m);

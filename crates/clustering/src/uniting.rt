@@ -15,7 +15,7 @@ ghost use Rattle.lists.specs.Lists.{numbers, In};
 ghost use Rattle.lists.specs.Words.{over, part, column, Clear};
 ghost use Rattle.counting_tree.specs.Ready.{geometryAt, Ready};
 ghost use Rattle.cells_grid.specs.Arrangement.{cellAt};
-ghost use Rattle.cells_grid.specs.Listing.{listOf, Hashed};
+ghost use Rattle.cells_grid.specs.Listing.{listOf, CellsSorted};
 ghost use Rattle.core_cells.specs.Forest.{Grown};
 ghost use Rattle.partitions.specs.Leaders.{Falling, root};
 ghost use Rattle.partitions.specs.Trials.{run, byLeaders};
@@ -274,7 +274,7 @@ fn unite_list(
 // Takes each core cell with the cells of its list. (Most of these already have the lowest cell of its set for their leader:
 // so this is looked for first, whatever leader the cell itself has, and the list is made without them.)
 fn unite_lists(points: &[i16], v: ValidParams, n: usize, k: usize, work: &mut [Word])
-    requires { ⌜ Ready (now points) v n × Grown (geometryAt v n (now points)) k (now work) × Hashed v n (now points) (now work) ⌝ }
+    requires { ⌜ Ready (now points) v n × Grown (geometryAt v n (now points)) k (now work) × CellsSorted v n (now points) (now work) ⌝ }
     requires { ⌜ (16 * n ≤ length (now work)) × Clear (now work) (15 * n) n × Falling (part (now work) (6 * n) k) ⌝ }
     ensures { λ _. ⌜ (let g = geometryAt v n (now (points .entry)) in now (work .exit) ≡ over (now (work .entry)) (6 * n)
         (meetLists g (touchAt g) (listOf v n (now (points .entry))) (numbers k) (part (now (work .entry)) (6 * n) k))) ⌝ }
@@ -353,7 +353,7 @@ fn meet_close(
 // Takes the sorted core cells, each with the few before it. (Cells that stand together mostly lie in one block: so most of those that are linked
 // are united with no search, and the search that follows finds them in one set. Turn q is for the cell at place q / 8.)
 fn unite_close_cells(points: &[i16], v: ValidParams, n: usize, k: usize, work: &mut [Word])
-    requires { ⌜ Ready (now points) v n × Grown (geometryAt v n (now points)) k (now work) × Hashed v n (now points) (now work) ⌝ }
+    requires { ⌜ Ready (now points) v n × Grown (geometryAt v n (now points)) k (now work) × CellsSorted v n (now points) (now work) ⌝ }
     requires { ⌜ (16 * n ≤ length (now work)) × Falling (part (now work) (6 * n) k) ⌝ }
     ensures { λ _. ⌜ now (work .exit) ≡ over (now (work .entry)) (6 * n) (meetAll byOwnLeaders (touchAt (geometryAt v n (now (points .entry))))
         (closePairs v n (now (points .entry)) (sortedCells (now (work .entry)) n k)) (part (now (work .entry)) (6 * n) k)) ⌝ }
@@ -371,7 +371,7 @@ fn unite_close_cells(points: &[i16], v: ValidParams, n: usize, k: usize, work: &
 
 // Writes the lowest cell of each cell's set, with all linked core cells united, in whatever order the lists give them.
 pub fn unite_listed_cells(points: &[i16], v: ValidParams, n: usize, k: usize, work: &mut [Word])
-    requires { ⌜ Ready (now points) v n × Grown (geometryAt v n (now points)) k (now work) × Hashed v n (now points) (now work)
+    requires { ⌜ Ready (now points) v n × Grown (geometryAt v n (now points)) k (now work) × CellsSorted v n (now points) (now work)
         × (16 * n ≤ length (now work)) × Clear (now work) (15 * n) n ⌝ }
     ensures { λ _. ⌜ now (work .exit) ≡ over (now (work .entry)) (6 * n) (column (lowestAt (geometryAt v n (now (points .entry))) (n * n)) k) ⌝ }
 {

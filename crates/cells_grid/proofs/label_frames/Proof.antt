@@ -19,17 +19,17 @@ abbrev μ-loop : tie.MeasureT-loop
 read-counts-requires : tie.Need-read-counts-requires Inv-loop μ-loop
 read-counts-requires c κs = search needs
 
-hash-frames-requires : tie.Need-hash-frames-requires Inv-loop μ-loop
-hash-frames-requires c κs = label-hash (c .before .before .before .args .work .now) (c .before .before .before .pre)
+sort-frames-requires : tie.Need-sort-frames-requires Inv-loop μ-loop
+sort-frames-requires c κs = label-hash (c .before .before .before .args .work .now) (c .before .before .before .pre)
 
 loop-holds : tie.Need-loop-holds Inv-loop μ-loop
-loop-holds c = label-start (c .before .before .before .before .before .before .args .work .now) (c .before .before .before .before .before .before .pre) (c .before .before .hash-frames .ensures)
+loop-holds c = label-start (c .before .before .before .before .before .before .args .work .now) (c .before .before .before .before .before .before .pre) (c .before .before .sort-frames .ensures)
 
 core-frame-requires : tie.Need-core-frame-requires Inv-loop μ-loop
 core-frame-requires c κs =
     let p = c .before .before .before .before .before .before .before .before .before .pre in
     let w = c .before .before .before .before .before .before .before .before .before .args .work .now in
-    let e = c .before .before .before .before .before .hash-frames .ensures in
+    let e = c .before .before .before .before .before .sort-frames .ensures in
     let F = c .before .before .loop .inv in
     ((p .0, label-arranged w p e F, c .before .loop-test .taken), (c .before .before .before .before .before .before .before .read-counts .ensures .1, label-sorted w p e F, omega (arith, label-length w p e F, p .2)))
 
@@ -43,7 +43,7 @@ mul-work-2 : tie.Need-mul-work-2 Inv-loop μ-loop
 mul-work-2 c = omega arith
 
 slice-write-work : tie.Need-slice-write-work Inv-loop μ-loop
-slice-write-work c = omega (arith, label-length (c .before .before .before .before .before .before .before .before .before .before .args .work .now) (c .before .before .before .before .before .before .before .before .before .before .pre) (c .before .before .before .before .before .before .hash-frames .ensures) (c .before .before .before .loop .inv))
+slice-write-work c = omega (arith, label-length (c .before .before .before .before .before .before .before .before .before .before .args .work .now) (c .before .before .before .before .before .before .before .before .before .before .pre) (c .before .before .before .before .before .before .sort-frames .ensures) (c .before .before .before .loop .inv))
 
 add-i : tie.Need-add-i Inv-loop μ-loop
 add-i c = omega arith
@@ -61,13 +61,13 @@ mul-clear-words-2 : tie.Need-mul-clear-words-2 Inv-loop μ-loop
 mul-clear-words-2 c = omega arith
 
 clear-words-requires : tie.Need-clear-words-requires Inv-loop μ-loop
-clear-words-requires c κs = omega (arith, label-length (c .before .before .before .before .before .before .before .before .before .args .work .now) (c .before .before .before .before .before .before .before .before .before .pre) (c .before .before .before .before .before .hash-frames .ensures) (c .before .before .loop .inv))
+clear-words-requires c κs = omega (arith, label-length (c .before .before .before .before .before .before .before .before .before .args .work .now) (c .before .before .before .before .before .before .before .before .before .pre) (c .before .before .before .before .before .sort-frames .ensures) (c .before .before .loop .inv))
 
 same-length : tie.Need-same-length Inv-loop μ-loop
-same-length c = c .before .before .clear-words .kept .0 ∙ label-length (c .before .before .before .before .before .before .before .before .before .before .before .before .args .work .now) (c .before .before .before .before .before .before .before .before .before .before .before .before .pre) (c .before .before .before .before .before .before .before .before .hash-frames .ensures) (c .before .before .before .before .before .loop .inv)
+same-length c = c .before .before .clear-words .kept .0 ∙ label-length (c .before .before .before .before .before .before .before .before .before .before .before .before .args .work .now) (c .before .before .before .before .before .before .before .before .before .before .before .before .pre) (c .before .before .before .before .before .before .before .before .sort-frames .ensures) (c .before .before .before .before .before .loop .inv)
 
 returns : tie.Need-returns Inv-loop μ-loop
-returns c = c .before .before .clear-words .ensures ∙ label-end (c .before .before .before .before .before .before .before .before .before .before .before .before .args .work .now) (c .before .before .before .before .before .before .before .before .before .before .before .before .pre) (c .before .before .before .before .before .before .before .before .hash-frames .ensures) (c .before .before .before .before .before .loop .inv) (c .before .before .before .before .loop-test .left)
+returns c = c .before .before .clear-words .ensures ∙ label-end (c .before .before .before .before .before .before .before .before .before .before .before .before .args .work .now) (c .before .before .before .before .before .before .before .before .before .before .before .before .pre) (c .before .before .before .before .before .before .before .before .sort-frames .ensures) (c .before .before .before .before .before .loop .inv) (c .before .before .before .before .loop-test .left)
 
 pub label-frames-spec : {M : Type 1} → statement M
 label-frames-spec =
@@ -76,7 +76,7 @@ label-frames-spec =
     Inv-loop
     μ-loop
     read-counts-requires
-    hash-frames-requires
+    sort-frames-requires
     loop-holds
     core-frame-requires
     mul-work

@@ -1,6 +1,6 @@
 -- A cell with the word 0 is no core cell, and any other is.
 use native.Mathlib.Omega.{arith}
-use Rattle.cells_grid.proofs.Hashing.{cells-few, key-of-none, first-low, key-of-core}
+use Rattle.cells_grid.proofs.Sorting.{cells-few, key-of-none, first-low, key-of-core}
 use borrow.Author.Needs.{needs}
 use Rattle.cells_grid.proofs.listing.cell_key.Statement.{statement}
 use Rattle.cells_grid.proofs.listing.cell_key.Tie as tie

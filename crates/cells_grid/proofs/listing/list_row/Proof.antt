@@ -2,9 +2,9 @@
 use Prim.Native.Nat.{_+_}
 use native.Mathlib.Omega.{arith}
 use Rattle.cells_grid.specs.Listing.{reachOf}
-use Rattle.cells_grid.proofs.Hashing.{cells-few}
+use Rattle.cells_grid.proofs.Sorting.{cells-few}
 use Rattle.blocks.specs.AroundLaws.{Rows, rows-low}
-use Rattle.cells_grid.proofs.Searching.{Row, InRow, row-start, row-length, row-arranged, row-hashed, row-room, row-next, row-end}
+use Rattle.cells_grid.proofs.Searching.{Row, InRow, row-start, row-length, row-arranged, row-sorted, row-room, row-next, row-end}
 use borrow.Author.Needs.{needs}
 use Rattle.cells_grid.proofs.listing.list_row.Statement.{statement}
 use Rattle.cells_grid.proofs.listing.list_row.Tie as tie
@@ -25,7 +25,7 @@ the-row c =
     record {
       rows = the-rows (c .before .before .before .before);
       arranged = p .0 .0;
-      hashed = p .0 .1;
+      sorted = p .0 .1;
       fit = p .0 .2;
       apart = p .0 .3;
       least = p .1 .0;
@@ -59,7 +59,7 @@ loop-holds c = row-start (the-row c)
 
 -- @After-stretch-at = c .before .before .before
 list-stretch-requires : tie.Need-list-stretch-requires Inv-loop μ-loop
-list-stretch-requires c κs = let Q = the-row (c .before .before .before) in let I = c .before .before .loop .inv in (c .before .before .before .before .before .before .before .pre .0, ((row-arranged Q I, row-hashed Q I, omega (arith, c .before .before .before .before .before .before .before .pre .1 .0 .2, row-length Q I), c .before .before .before .before .before .before .before .pre .1 .0 .3), (I .low, I .high, row-room Q I)))
+list-stretch-requires c κs = let Q = the-row (c .before .before .before) in let I = c .before .before .loop .inv in (c .before .before .before .before .before .before .before .pre .0, ((row-arranged Q I, row-sorted Q I, omega (arith, c .before .before .before .before .before .before .before .pre .1 .0 .2, row-length Q I), c .before .before .before .before .before .before .before .pre .1 .0 .3), (I .low, I .high, row-room Q I)))
 
 loop-less : tie.Need-loop-less Inv-loop μ-loop
 loop-less c = omega (arith, c .before .before .before .before .loop-test .taken)

@@ -15,7 +15,7 @@ abbrev μ-loop : tie.MeasureT-loop
 the-search : (c : tie.Start Inv-loop μ-loop) → Search (c .args .v) (c .args .n) (c .args .points .now) (c .args .i) (c .args .r) (c .args .marks) (c .args .mark) (c .args .m) (c .args .«from») (c .args .end) (c .args .work .now)
 the-search c =
     let p = c .pre in
-    record { ready = p .0 .0; arranged = p .1 .0 .0; hashed = p .1 .0 .1; fit = p .1 .0 .2; apart = p .1 .0 .3; low = p .1 .1 .0; high = p .1 .1 .1; room = p .1 .1 .2 }
+    record { ready = p .0 .0; arranged = p .1 .0 .0; sorted = p .1 .0 .1; fit = p .1 .0 .2; apart = p .1 .0 .3; low = p .1 .1 .0; high = p .1 .1 .1; room = p .1 .1 .2 }
 
 -- @START = c .before
 loop-holds : tie.Need-loop-holds Inv-loop μ-loop

@@ -4,9 +4,9 @@ use Prim.Native.Nat.{ℕ, _-_, _/_}
 use native.Mathlib.Omega.{arith}
 use lib.ListN.{getD}
 use Rattle.cells_grid.specs.Listing.{reachOf}
-use Rattle.cells_grid.proofs.Hashing.{cells-few}
+use Rattle.cells_grid.proofs.Sorting.{cells-few}
 use Rattle.blocks.specs.AroundLaws.{Rows, rows-of, few-rows, rows-hash}
-use Rattle.cells_grid.proofs.Gathering.{Gathering, Asked, gathering-below, gathering-start, gathering-length, gathering-arranged, gathering-hashed, gathering-room, gathering-next, gathering-end}
+use Rattle.cells_grid.proofs.Gathering.{Gathering, Asked, gathering-below, gathering-start, gathering-length, gathering-arranged, gathering-sorted, gathering-room, gathering-next, gathering-end}
 use Rattle.cells_grid.proofs.listing.list_unmarked.Statement.{statement}
 use Rattle.cells_grid.proofs.listing.list_unmarked.Tie as tie
 
@@ -19,7 +19,7 @@ abbrev μ-loop : tie.MeasureT-loop
 asked : (c : tie.After-word Inv-loop μ-loop) → Asked (c .before .before .before .args .v) (c .before .before .before .args .n) (c .before .before .before .args .points .now) (c .word .result) (c .before .before .before .args .k) (c .before .before .before .args .c) (c .before .before .before .args .marks) (c .before .before .before .args .work .now)
 asked c =
     let p = c .before .before .before .pre in
-    record { ready = p .0; arranged = p .1; hashed = p .2; cell = p .3; fit = p .4; apart = p .5; first = c .word .ensures }
+    record { ready = p .0; arranged = p .1; sorted = p .2; cell = p .3; fit = p .4; apart = p .5; first = c .word .ensures }
 
 -- @After-word = c .before .before .before
 the-rows : (c : tie.After-edges-at Inv-loop μ-loop) → Rows (reachOf (c .before .before .before .before .before .before .args .v)) (c .before .before .before .before .before .before .args .v) (c .before .before .before .before .before .before .args .n) (c .before .before .before .before .before .before .args .points .now) (c .before .before .before .word .result) (c .edges-at .result)
@@ -69,7 +69,7 @@ array-read-list-row c = omega (arith, few-rows (c .before .before .before .befor
 -- @After-edges-at = c .before .before .before .before .before
 -- @After-word = c .before .before .before .before .before .before .before .before
 list-row-requires : tie.Need-list-row-requires Inv-loop μ-loop
-list-row-requires c κs = let R = the-rows (c .before .before .before .before .before) in ((c .before .before .before .before .before .before .before .before .before .before .before .pre .0, R .below, R .begin, R .small), ((gathering-arranged (asked (c .before .before .before .before .before .before .before .before)) (c .before .before .loop .inv), gathering-hashed (asked (c .before .before .before .before .before .before .before .before)) (c .before .before .loop .inv), omega (arith, c .before .before .before .before .before .before .before .before .before .before .before .pre .4, gathering-length (asked (c .before .before .before .before .before .before .before .before)) (c .before .before .loop .inv)), c .before .before .before .before .before .before .before .before .before .before .before .pre .5), (omega (arith, c .before .before .before .before .before .before .before .before .before .before .before .pre .3), rows-hash R (c .before .before .before .before .before .before .before .width .ensures) (c .before .before .before .before .row-hashes .ensures .0) (c .before .before .loop .r) (omega (arith, c .before .loop-test .taken, c .before .before .before .row-count .ensures)), ap (λ (z : ℕ). getD (c .before .before .before .before .before .edges-at .result) 0 0 / z) (c .before .before .before .before .before .before .before .width .ensures), gathering-room (asked (c .before .before .before .before .before .before .before .before)) (c .before .before .loop .inv) (omega (arith, c .before .loop-test .taken, c .before .before .before .row-count .ensures)))))
+list-row-requires c κs = let R = the-rows (c .before .before .before .before .before) in ((c .before .before .before .before .before .before .before .before .before .before .before .pre .0, R .below, R .begin, R .small), ((gathering-arranged (asked (c .before .before .before .before .before .before .before .before)) (c .before .before .loop .inv), gathering-sorted (asked (c .before .before .before .before .before .before .before .before)) (c .before .before .loop .inv), omega (arith, c .before .before .before .before .before .before .before .before .before .before .before .pre .4, gathering-length (asked (c .before .before .before .before .before .before .before .before)) (c .before .before .loop .inv)), c .before .before .before .before .before .before .before .before .before .before .before .pre .5), (omega (arith, c .before .before .before .before .before .before .before .before .before .before .before .pre .3), rows-hash R (c .before .before .before .before .before .before .before .width .ensures) (c .before .before .before .before .row-hashes .ensures .0) (c .before .before .loop .r) (omega (arith, c .before .loop-test .taken, c .before .before .before .row-count .ensures)), ap (λ (z : ℕ). getD (c .before .before .before .before .before .edges-at .result) 0 0 / z) (c .before .before .before .before .before .before .before .width .ensures), gathering-room (asked (c .before .before .before .before .before .before .before .before)) (c .before .before .loop .inv) (omega (arith, c .before .loop-test .taken, c .before .before .before .row-count .ensures)))))
 
 loop-less : tie.Need-loop-less Inv-loop μ-loop
 loop-less c = omega arith

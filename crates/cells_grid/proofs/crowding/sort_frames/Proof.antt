@@ -6,8 +6,8 @@ use native.Mathlib.Omega.{arith}
 use Rattle.lists.specs.LoopLaws.{Fill, fill-start, fill-length, fill-step}
 use Rattle.cells_grid.specs.Crowding.{frameKey}
 use Rattle.cells_grid.proofs.Core.{frame-key, frames-can, frames-sorted}
-use Rattle.cells_grid.proofs.crowding.hash_frames.Statement.{statement}
-use Rattle.cells_grid.proofs.crowding.hash_frames.Tie as tie
+use Rattle.cells_grid.proofs.crowding.sort_frames.Statement.{statement}
+use Rattle.cells_grid.proofs.crowding.sort_frames.Tie as tie
 
 abbrev Inv-loop : tie.InvT-loop
 Inv-loop points v n work₀ w j₀ work j = Fill (frameKey v n points) work₀ (15 * n) n work j
@@ -81,8 +81,8 @@ same-length c = c .before .before .clear-words .kept .0 ∙ c .before .before .b
 returns : tie.Need-returns Inv-loop μ-loop
 returns c = frames-sorted (c .before .before .before .before .before .before .before .before .before .before .before .before .args .work .now) (c .before .before .before .before .before .before .before .before .before .before .before .before .pre) (c .before .before .before .before .before .before .before .before .before .loop .inv) (omega (arith, c .before .before .before .before .before .before .before .before .loop-test .left)) (c .before .before .before .before .before .before .sort .ensures) (c .before .before .clear-words .ensures)
 
-pub hash-frames-spec : {M : Type 1} → statement M
-hash-frames-spec =
+pub sort-frames-spec : {M : Type 1} → statement M
+sort-frames-spec =
     tie.close
     (tie.spec
     Inv-loop

@@ -4,9 +4,9 @@ use Prim.Native.Nat.{_-_, _*_}
 use native.Mathlib.Omega.{arith}
 use Rattle.lists.specs.LoopLaws.{Fill, fill-start, fill-length, fill-step}
 use Rattle.cells_grid.specs.Listing.{cellKey}
-use Rattle.cells_grid.proofs.Hashing.{cells-few, keys-arranged, keys-tree, keys-sortable, keys-sorted}
-use Rattle.cells_grid.proofs.listing.hash_cells.Statement.{statement}
-use Rattle.cells_grid.proofs.listing.hash_cells.Tie as tie
+use Rattle.cells_grid.proofs.Sorting.{cells-few, keys-arranged, keys-tree, keys-sortable, keys-sorted}
+use Rattle.cells_grid.proofs.listing.sort_cells.Statement.{statement}
+use Rattle.cells_grid.proofs.listing.sort_cells.Tie as tie
 
 abbrev Inv-loop : tie.InvT-loop
 Inv-loop points v n k work₀ c₀ work c = Fill (cellKey v n points) work₀ (15 * n) k work c
@@ -71,8 +71,8 @@ same-length c = c .before .before .clear-words .kept .0 ∙ c .before .before .b
 returns : tie.Need-returns Inv-loop μ-loop
 returns c = c .before .before .clear-words .ensures ∙ keys-sorted (c .before .before .before .before .before .before .before .before .before .before .before .pre .0 .0) (c .before .before .before .before .before .before .before .before .before .before .before .pre .0 .1) (c .before .before .before .before .before .before .before .before .before .before .before .pre .0 .2) (c .before .before .before .before .before .before .before .before .before .before .before .pre .0 .3) (c .before .before .before .before .before .before .before .before .before .before .before .pre .1) (c .before .before .before .before .before .before .before .before .before .loop .inv) (c .before .before .before .before .before .before .before .before .loop-test .left) (c .before .before .before .before .before .before .sort .ensures)
 
-pub hash-cells-spec : {M : Type 1} → statement M
-hash-cells-spec =
+pub sort-cells-spec : {M : Type 1} → statement M
+sort-cells-spec =
     tie.close
     (tie.spec
     Inv-loop
