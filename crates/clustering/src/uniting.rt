@@ -321,33 +321,33 @@ fn is_close(
     cells_grid::is_core(work, n, j)
 }
 
-// Takes two cells: where they are in two sets and close, makes one set of theirs.
+// Takes a sorted cell and an earlier one: where they are in two sets and close, makes one set of theirs.
 fn meet_close(
     points: &[i16],
     v: ValidParams,
     n: usize,
     k: usize,
     work: &mut [Word],
-    c: usize,
-    d: usize,
+    later: usize,
+    earlier: usize,
 )
-    requires { ⌜ Ready (now points) v n × Grown (geometryAt v n (now points)) k (now work) × (c < k) × (d < k) ⌝ }
+    requires { ⌜ Ready (now points) v n × Grown (geometryAt v n (now points)) k (now work) × (later < k) × (earlier < k) ⌝ }
     requires { ⌜ (7 * n ≤ length (now work)) × Falling (part (now work) (6 * n) k) ⌝ }
     ensures { λ _. ⌜ now (work .exit) ≡ over (now (work .entry)) (6 * n)
-        (meetAll byOwnLeaders (touchAt (geometryAt v n (now (points .entry)))) (closePair v n (now (points .entry)) c d) (part (now (work .entry)) (6 * n) k)) ⌝ }
+        (meetAll byOwnLeaders (touchAt (geometryAt v n (now (points .entry)))) (closePair v n (now (points .entry)) later earlier) (part (now (work .entry)) (6 * n) k)) ⌝ }
 {
     let a = LEADERS * n;
-    if lists::word(work, a + c) == lists::word(work, a + d) {
+    if lists::word(work, a + later) == lists::word(work, a + earlier) {
         return;
     }
-    if !is_close(points, v, n, k, work, c, d) {
+    if !is_close(points, v, n, k, work, later, earlier) {
         return;
     }
     let e = a + k;
-    if partitions::same_set(&mut work[a..e], c, d) {
+    if partitions::same_set(&mut work[a..e], later, earlier) {
         return;
     }
-    partitions::union(&mut work[a..e], c, d);
+    partitions::union(&mut work[a..e], later, earlier);
 }
 
 // Takes the sorted core cells, each with the few before it. (Cells that stand together mostly lie in one block: so most of those that are linked
