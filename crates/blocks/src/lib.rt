@@ -16,7 +16,7 @@ ghost use Rattle.counting_tree.specs.Ready.{Ready};
 ghost use Rattle.blocks.specs.Blocks as Definitions;
 ghost use Rattle.blocks.specs.Blocks.{raise, edgesOf, keyOf, shifted, ownBlock, sameNats, rowHash, bucketAt, bucketOf, stretchIn};
 
-// From 14n on stand the numbers by bucket, from 15n on, while they are sorted, the bucket of each. Where the numbers of each bucket end stands where each search says.
+// From 14n on stand the numbers by bucket, from 15n on, while they are sorted, the bucket of each. Each search says where the ends of its buckets stand.
 pub const PLACES: usize = 14;
 
 pub const KEYS: usize = 15;
