@@ -85,7 +85,7 @@ stretchIn w ends b size = cond (ltb (b + 1) size)
     record { «from» = beginIn w ends b; to = beginIn w ends (b + 1 + 1); rest = 0 }
     record { «from» = beginIn w ends b; to = beginIn w ends (b + 1); rest = beginIn w ends 1 }
 
--- the words w with m numbers sorted by one of `size` keys: from `ends` where those of each key end, from 14n the numbers
+-- the words w with m numbers sorted by keys below `size`: from `ends` where those of each key end, from 14n the numbers
 unfoldable pub sortedBy : (ℕ → ℕ) → (m size ends n : ℕ) → List ℕ → List ℕ
 unfolding startOf placesOf
 sortedBy key m size ends n w = over (over w (14 * n) (placesOf key m size)) ends (column (λ b. startOf key m (b + 1)) size)

@@ -154,12 +154,9 @@ behind n = inl (omega arith)
 
 -- ---- core frames are written between the arrangement and the sorted frames
 module _ {ps : List ℤ} {v : ValidParams} {n k : ℕ} (w₀ : List ℕ)
-    (p : Ready ps v n × Arranged (geometryAt v n ps) k w₀ × (24 * n ≤ length w₀) × Clear w₀ (10 * n) (14 * n)) where
-  scratch : Clear w₀ (14 * n) (10 * n)
-  scratch = clear-within w₀ (10 * n) (14 * n) (14 * n) (10 * n) (p .3) (omega arith) (omega arith)
-
-  pub label-hash : Ready ps v n × (24 * n ≤ length w₀) × Clear w₀ (14 * n) (10 * n)
-  label-hash = (p .0, p .2, scratch)
+    (p : Ready ps v n × Arranged (geometryAt v n ps) k w₀ × (24 * n ≤ length w₀) × Clear w₀ (14 * n) (10 * n)) where
+  pub label-sort : Ready ps v n × (24 * n ≤ length w₀) × Clear w₀ (14 * n) (10 * n)
+  label-sort = (p .0, p .2, p .3)
 
   H : length (sortedBy (frameKey v n ps) n (8 * n) (16 * n) n w₀) ≡ length w₀
   H = sorted-length (frameKey v n ps) n (8 * n) (16 * n) n (le-refl n) (behind n) (key-low v n ps) w₀ (omega (arith, p .2)) (omega (arith, p .2))
@@ -204,7 +201,7 @@ module _ {ps : List ℤ} {v : ValidParams} {n k : ℕ} (w₀ : List ℕ)
         let l : length (over w₀ (4 * n) D) ≡ length w₀ = over-length w₀ (4 * n) D (omega (arith, p .2)) in
         ap (λ (z : List ℕ). over z (14 * n) (replicate (10 * n) 0)) (fill-end F h ∙ sorted-under key n (8 * n) (16 * n) n (le-refl n) (behind n) (key-low v n ps) w₀ (omega (arith, p .2)) (omega (arith, p .2)) (4 * n) D (omega arith) (omega arith))
         ∙ sorted-cleared key n (8 * n) (16 * n) n (le-refl n) (behind n) (key-low v n ps) (over w₀ (4 * n) D) (omega (arith, p .2)) (omega (arith, p .2)) (14 * n) (10 * n) (omega arith) (omega arith) (omega arith) (omega arith) (omega (arith, p .2))
-        (clear-after w₀ (14 * n) (10 * n) (4 * n) D (omega (arith, p .2)) (omega arith) scratch)
+        (clear-after w₀ (14 * n) (10 * n) (4 * n) D (omega (arith, p .2)) (omega arith) (p .3))
 
 -- ---- all frames are sorted: their keys are written, then they are sorted, then the keys are cleared
 module _ {ps : List ℤ} {v : ValidParams} {n : ℕ} (w₀ : List ℕ) (p : Ready ps v n × (24 * n ≤ length w₀) × Clear w₀ (14 * n) (10 * n))

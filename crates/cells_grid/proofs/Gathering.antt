@@ -19,7 +19,7 @@ use Rattle.blocks.specs.Blocks.{found}
 use Rattle.cells_grid.specs.Cells.{cells}
 use Rattle.cells_grid.specs.Arrangement.{cellAt, Arranged}
 use Rattle.cells_grid.specs.Ready.{ready-lawful}
-use Rattle.cells_grid.specs.ArrangementLaws.{cell-at-below, first-word, arranged-over}
+use Rattle.cells_grid.specs.ArrangementLaws.{first-word, first-word-low, arranged-over}
 use Rattle.cells_grid.specs.Listing.{unmarked, listIn, listOf, CellsSorted}
 use Rattle.cells_grid.specs.ListingLaws.{unmarked-all, unmarked-le, unmarked-append, unmarked-over, few, in-below, list-length, cells-sorted-over}
 
@@ -69,7 +69,7 @@ module _ {v : ValidParams} {n : ℕ} {ps : List ℤ} {i k c marks : ℕ} {w₀ :
   first-is = S .first ∙ first-word g (ready-lawful (S .ready)) (S .arranged) n (at-frames v n ps) c (S .cell)
 
   pub gathering-below : i < n
-  gathering-below = omega (arith, first-is, cell-at-below g c cell, at-frames v n ps)
+  gathering-below = omega (arith, S .first, first-word-low g (ready-lawful (S .ready)) (S .arranged) n (at-frames v n ps) c (S .cell))
 
   all : upTo v n ps i (2 ^ (v .channels - 1)) ≡ listOf v n ps c
   unfolding listOf listIn found

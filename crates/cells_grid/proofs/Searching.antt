@@ -9,13 +9,13 @@ use lib.IntN.{ℤ, pos}
 use lib.Dec.{eqb}
 use lib.ListN.{length, getD, set, take, drop, length-append}
 use borrow.Author.Tests.{eq-eqb, ne-eqb}
-use Rattle.lists.specs.Lists.{numbers, keep, In, Below}
-use Rattle.lists.specs.Words.{over, part, column}
-use Rattle.lists.specs.Sorting.{numbered, placesOf}
-use Rattle.lists.specs.ListLaws.{in-keep, in-numbers, append-one, append-two, in-concat, in-map}
+use Rattle.lists.specs.Lists.{keep, In}
+use Rattle.lists.specs.Words.{over, part}
+use Rattle.lists.specs.Sorting.{numbered}
+use Rattle.lists.specs.ListLaws.{append-one, append-two}
 use Rattle.lists.specs.CountLaws.{keep-append}
 use Rattle.lists.specs.WordLaws.{over-length, over-nil, over-snoc, over-next}
-use Rattle.lists.specs.PartLaws.{get-under, part-below, part-step, part-under}
+use Rattle.lists.specs.PartLaws.{get-under, part-step, part-under}
 use Rattle.hyperparams.specs.declared.ValidParams.{ValidParams}
 use Rattle.counting_tree.specs.Geometry.{Geometry}
 use Rattle.counting_tree.specs.Ready.{geometryAt, Ready, at-frames}
@@ -26,9 +26,9 @@ use Rattle.blocks.specs.SortedLaws.{Stretched, stretch-holds}
 use Rattle.cells_grid.specs.Cells.{cells}
 use Rattle.cells_grid.specs.Arrangement.{cellAt, Arranged}
 use Rattle.cells_grid.specs.Ready.{ready-lawful}
-use Rattle.cells_grid.specs.ArrangementLaws.{cell-at-below, words-room, first-word, arranged-over}
+use Rattle.cells_grid.specs.ArrangementLaws.{words-room, first-word, first-word-low, arranged-over}
 use Rattle.cells_grid.specs.Listing.{reachOf, unmarked, cellKey, nearIn, listIn, CellsSorted}
-use Rattle.cells_grid.specs.ListingLaws.{unmarked-more, unmarked-append, unmarked-over, few, in-below, cells-sorted-over}
+use Rattle.cells_grid.specs.ListingLaws.{unmarked-more, unmarked-append, unmarked-over, few, in-below, cells-sorted-over, sorted-cell}
 
 module _ {v : ValidParams} {n : ℕ} {ps : List ℤ} {i : ℕ} {first : List ℕ} (R : Rows (reachOf v) v n ps i first) where
   -- ---- whether a cell is found: its mark x first, then whether its first frame j is near, then its row
@@ -41,7 +41,7 @@ module _ {v : ValidParams} {n : ℕ} {ps : List ℤ} {i : ℕ} {first : List ℕ
       first-is = e ∙ first-word (geometryAt v n ps) (ready-lawful (R .ready)) A n (at-frames v n ps) d h
 
       pub found-below : j < n
-      found-below = omega (arith, first-is, cell-at-below (geometryAt v n ps) d h, at-frames v n ps)
+      found-below = omega (arith, e, first-word-low (geometryAt v n ps) (ready-lawful (R .ready)) A n (at-frames v n ps) d h)
 
     module _ (r marks mark : ℕ) {x : ℕ} (q : x ≡ getD w (marks + d) 0) where
       pub found-marked : x ≡ mark → false ≡ not (eqb (getD w (marks + d) 0) mark) && nearIn v n ps i r d
@@ -105,20 +105,6 @@ module _ (v : ValidParams) (n : ℕ) (ps : List ℤ) where
     pub laid : w ≡ over w₀ (15 * n + m) (unmarked w₀ marks mark done)
     pub left : done ++ (nearBy i r w₀ a b ++ nearBy i r w₀ 0 rest) ≡ listIn v n ps i r
 
--- the sorted numbers are cells
-places-below : (key : ℕ → ℕ) (m size : ℕ) → Below m (placesOf key m size)
-unfolding placesOf numbered
-places-below key m size d l =
-    let z = in-concat d (column (λ b. keep (λ i. eqb (key i) b) (numbers m)) size) l in
-    let y = in-map (λ b. keep (λ i. eqb (key i) b) (numbers m)) (z .0) (numbers size) (z .1) in
-    in-numbers m d (in-keep (λ i. eqb (key i) (y .0)) d (numbers m) (subst (In d) (y .2) (z .2)) .0)
-
-module _ {ps : List ℤ} {v : ValidParams} {n : ℕ} (r : Ready ps v n) {w : List ℕ} (H : CellsSorted v n ps w) (fit : 16 * n ≤ length w) where
-  place-cell : (p : ℕ) → p < length (cells (geometryAt v n ps)) → getD w (14 * n + p) 0 < length (cells (geometryAt v n ps))
-  place-cell p h =
-      let k = length (cells (geometryAt v n ps)) in
-      part-below k w (14 * n) k p (subst (Below k) (sym (H .numbers)) (places-below (cellKey v n ps) k (4 * k))) (omega (arith, few r)) h
-
 module _ {v : ValidParams} {n : ℕ} {ps : List ℤ} {i r marks mark m a b : ℕ} {w₀ : List ℕ} (S : Search v n ps i r marks mark m a b w₀) where
   abbrev all : List ℕ
   all = stretch v n ps i r w₀ marks mark a b
@@ -154,7 +140,7 @@ module _ {v : ValidParams} {n : ℕ} {ps : List ℤ} {i r marks mark m a b : ℕ
       was = e ∙ word-same (14 * n + p) (omega (arith, S .high, few (S .ready)))
 
       pub walking-cell : d < length (cells (geometryAt v n ps))
-      walking-cell = omega (arith, was, place-cell (S .ready) (S .sorted) (S .fit) p (omega (arith, S .high)))
+      walking-cell = omega (arith, was, sorted-cell (S .ready) (S .sorted) p (omega (arith, S .high)))
 
       pub walking-mark : marks + d < length w
       walking-mark = omega (arith, walking-cell, few (S .ready), walking-length, S .apart, S .fit)

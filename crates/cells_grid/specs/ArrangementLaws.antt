@@ -176,6 +176,9 @@ module _ (g : Geometry) (L : Lawful g) {k : ℕ} {w : List ℕ} (A : Arranged g 
   pub first-word : (c : ℕ) → c < k → getD w (n + c) 0 ≡ cellAt g c
   first-word c h = sym (part-at w n k c h) ∙ ap (λ (z : List ℕ). getD z c 0) (subst (λ m. part w m k ≡ cells g) e (A .firsts))
 
+  pub first-word-low : (c : ℕ) → c < k → getD w (n + c) 0 < n
+  first-word-low c h = omega (arith, first-word c h, cell-at-below g c (omega (arith, A .count)), e)
+
   pub start-word : (c : ℕ) → c < k → getD w (2 * n + c) 0 ≡ startAt g c
   start-word c h = holds-at w (2 * n) k (startAt g) c (subst (λ m. part w (2 * m) k ≡ column (startAt g) k) e (A .starts)) h
 

@@ -18,7 +18,7 @@ abbrev pub every : ℕ → Bool
 every j = true
 
 module _ (v : ValidParams) (n : ℕ) (ps : List ℤ) where
-  -- of 8 × n - 1 buckets that of each frame, by blocks for the reach t
+  -- of 8 × n − 1 buckets that of each frame, by blocks for the reach t
   abbrev pub frameKey : ℕ → ℕ
   frameKey = keyFor (v .t) v n ps (8 * n - 1) itself every
 

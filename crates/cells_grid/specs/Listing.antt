@@ -26,7 +26,7 @@ coreAt g c = coreCell g (cellAt g c)
 unfoldable pub unmarked : List ℕ → (marks mark : ℕ) → List ℕ → List ℕ
 unmarked w marks mark ds = keep (λ d. not (eqb (getD w (marks + d) 0) mark)) ds
 
--- how many core cells stand sorted: all of the sorted cells but those of the last bucket
+-- how many core cells stand sorted: those before the last key, which the other cells have
 abbrev pub sortedCount : List ℕ → (n k : ℕ) → ℕ
 sortedCount w n k = beginIn w (10 * n) (4 * k - 1)
 

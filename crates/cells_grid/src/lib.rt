@@ -1,6 +1,6 @@
 // Cells, their lists and their core frames (CellsGrid and Cell of the source), in words of one lent slice.
 // `v` has the settings, `n` is the number of frames, `k` the number of cells. A cell has a number; frame i's is at i,
-// and each of the regions below has one word a frame too. From 10n up to 16n, and for `populate` and `label_points` up to 24n,
+// and each of the regions below has one word a frame too. From 10n up to 16n, for `populate` also from 16n and for `label_points` from 14n up to 24n,
 // each phase finds words that are 0 and leaves them so: `inserting`, `crowding`, `listing` and the crate `blocks` say what stands there meanwhile.
 use hyperparams::ValidParams;
 use lists::Word;
@@ -124,7 +124,7 @@ fn core_frame(points: &[i16], v: ValidParams, n: usize, work: &[Word], k: usize,
 
 // Writes which frames are core, by the frames near each frame of a cell that is not dense.
 fn label_frames(points: &[i16], v: ValidParams, n: usize, k: usize, work: &mut [Word])
-    requires { ⌜ Ready (now points) v n × Arranged (geometryAt v n (now points)) k (now work) × (24 * n ≤ length (now work)) × Clear (now work) (10 * n) (14 * n) ⌝ }
+    requires { ⌜ Ready (now points) v n × Arranged (geometryAt v n (now points)) k (now work) × (24 * n ≤ length (now work)) × Clear (now work) (14 * n) (10 * n) ⌝ }
     ensures { λ _. ⌜ now (work .exit) ≡ over (now (work .entry)) (4 * n) (column (coreBit (geometryAt v n (now (points .entry)))) n) ⌝ }
 {
     // Every count is then known to be a signed 16-bit number, which `crowded` rests on.
@@ -157,7 +157,7 @@ fn all_dense(points: &[i16], v: ValidParams, n: usize, k: usize, work: &[Word]) 
 
 // Writes which frames are core. (Where every cell is dense all are, and no frame has to be looked for.)
 pub fn label_points(points: &[i16], v: ValidParams, n: usize, k: usize, work: &mut [Word])
-    requires { ⌜ Ready (now points) v n × Arranged (geometryAt v n (now points)) k (now work) × (24 * n ≤ length (now work)) × Clear (now work) (10 * n) (14 * n) ⌝ }
+    requires { ⌜ Ready (now points) v n × Arranged (geometryAt v n (now points)) k (now work) × (24 * n ≤ length (now work)) × Clear (now work) (14 * n) (10 * n) ⌝ }
     ensures { λ _. ⌜ now (work .exit) ≡ over (now (work .entry)) (4 * n) (column (coreBit (geometryAt v n (now (points .entry)))) n) ⌝ }
 {
     if all_dense(points, v, n, k, work) {

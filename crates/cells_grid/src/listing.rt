@@ -60,7 +60,7 @@ fn cell_key(points: &[i16], v: ValidParams, n: usize, k: usize, work: &[Word], c
     blocks::key(points, v, n, width(v), size, lists::word(work, n + c))
 }
 
-// Sorts the core cells by the buckets of their first frames' blocks: after it `list_cells` and `list_unmarked` can be asked.
+// Sorts the core cells by the buckets of their first frames' blocks: after it `list_cells`, `list_unmarked` and `sorted_count` can be asked.
 pub fn sort_cells(points: &[i16], v: ValidParams, n: usize, k: usize, work: &mut [Word])
     requires { ⌜ Ready (now points) v n × Arranged (geometryAt v n (now points)) k (now work) × (16 * n ≤ length (now work)) × Clear (now work) (10 * n) (6 * n) ⌝ }
     requires { ⌜ ((c : ℕ) → c < k → nonzero (getD (now work) (5 * n + c) 0) ≡ coreCell (geometryAt v n (now points)) (cellAt (geometryAt v n (now points)) c)) ⌝ }

@@ -1,17 +1,14 @@
 -- Cells that are close: what the code asks of two of them, what it leaves of their leaders, and the turns that are still to come.
-use mathlib.Core.Path.{_≡_, refl, sym, ap, ap₂, _∙_, subst}
-use mathlib.Core.Logic.{inl, inr}
-use mathlib.Core.Bool.{Bool, true, false, not, _&&_, cond}
-use mathlib.Core.List.{List, [], _∷_, _++_}
+use mathlib.Core.Path.{_≡_, refl, sym, ap, _∙_, subst}
+use mathlib.Core.Bool.{Bool, true, false, not, _&&_}
+use mathlib.Core.List.{List, [], _++_}
 use Prim.Native.Nat.{ℕ, _+_, _-_, _*_, _/_, _%_, _<_, _≤_}
-use native.Mathlib.Nat.{mul-le-mul}
 use native.Mathlib.Omega.{arith}
 use lib.Dec.{T, ltb, eqb}
 use lib.IntN.{ℤ}
 use lib.ListN.{length, getD}
 use borrow.Author.Tests.{lt-ltb, le-ltb}
 use borrow.Rule.Slice.PartMut.{putMid}
-use Rattle.lists.specs.Lists.{In, Below}
 use Rattle.lists.specs.Words.{over, part, rest}
 use Rattle.lists.specs.ListLaws.{true-T, T-true, not-turn}
 use Rattle.lists.specs.WordLaws.{over-self}
@@ -31,6 +28,7 @@ use Rattle.partitions.specs.Leaders.{Falling, root, shortenBoth, united}
 use Rattle.partitions.specs.TrialLaws.{Within}
 use Rattle.clustering.specs.Clusters.{touches}
 use Rattle.clustering.specs.Uniting.{pairAt, onePair, touchAt}
+use Rattle.clustering.specs.UnitingLaws.{if-within}
 use Rattle.clustering.specs.UniteAll.{meetAll, byOwnLeaders}
 use Rattle.clustering.specs.UniteAllLaws.{meet-append}
 use Rattle.clustering.specs.Close.{back, laterAt, earlierAt, sortedCells, closeAt, closePair, closeTurns, closePairs}
@@ -39,10 +37,6 @@ use Rattle.clustering.proofs.Held.{few-cells, cell-count, is-cell, core
 use Rattle.clustering.proofs.ByLists.{left, Leading, leading-start, leaders-now, leading-on, pairs-stand}
 use Rattle.clustering.proofs.Trying.{CanTry, p, P, put, Q}
 use Rattle.clustering.proofs.Meeting.{one-leader, one-set, link}
-
--- t × t fits
-pub square-fits : {ps : List ℤ} {v : ValidParams} {n : ℕ} → Ready ps v n → v .t * v .t ≤ 4294836225
-square-fits r = mul-le-mul {n₂ = 65535} {m₂ = 65535} (r .settings .scale .high) (r .settings .scale .high)
 
 -- ---- two cells, with the first frames i and j
 module _ {ps : List ℤ} {v : ValidParams} {n : ℕ} (r : Ready ps v n) {k : ℕ} {w : List ℕ} (gr : Grown (geometryAt v n ps) k w) {c d : ℕ} (hc : c < k) (hd : d < k) where
@@ -143,28 +137,33 @@ module _ (v : ValidParams) (n : ℕ) (ps : List ℤ) (k : ℕ) (w₀ : List ℕ)
     pub leading : Leading (geometryAt v n ps) n k w₀ w
     pub count : length zs ≡ sortedCount w₀ n k
     pub few : sortedCount w₀ n k ≤ k
-    pub below : (p : ℕ) → p < k → getD w₀ (14 * n + p) 0 < k
+    pub below : (p : ℕ) → p < length zs → getD zs p 0 < k
     pub low : back * back ≤ q
     pub goes : left (geometryAt v n ps) (closePairs v n ps zs) (part w₀ (6 * n) k) ≡ left (geometryAt v n ps) (closeTurns v n ps zs (rest turns q)) (part w (6 * n) k)
 
 -- the sorted core cells are cells
-pub sorted-low : {ps : List ℤ} {v : ValidParams} {n : ℕ} (r : Ready ps v n) {k : ℕ} {w : List ℕ} (gr : Grown (geometryAt v n ps) k w) → CellsSorted v n ps w → sortedCount w n k ≤ k
-sorted-low {n = n} r {k} {w} gr H = subst (λ (k : ℕ). sortedCount w n k ≤ k) (sym (cell-count r gr)) (sorted-few r H)
+module _ {ps : List ℤ} {v : ValidParams} {n : ℕ} (r : Ready ps v n) {k : ℕ} {w : List ℕ} (gr : Grown (geometryAt v n ps) k w) (H : CellsSorted v n ps w) (l : 16 * n ≤ length w) where
+  pub sorted-low : sortedCount w n k ≤ k
+  sorted-low = subst (λ (k : ℕ). sortedCount w n k ≤ k) (sym (cell-count r gr)) (sorted-few r H)
 
-pub turns-start : {ps : List ℤ} {v : ValidParams} {n : ℕ} (r : Ready ps v n) {k : ℕ} {w : List ℕ} (gr : Grown (geometryAt v n ps) k w) → CellsSorted v n ps w → 16 * n ≤ length w
-    → Falling (part w (6 * n) k) → {q : ℕ} → q ≡ back * back → Turns v n ps k w w q
-unfolding closePairs
-turns-start {ps} {v} {n} r {k} {w} gr H l f {q} e =
-    let c = cell-count r gr in
-    let m = sorted-low r gr H in
-    record {
-      leading = leading-start r gr l f;
-      count = part-length w (14 * n) (sortedCount w n k) (omega (arith, few-cells r gr));
-      few = m;
-      below = subst (λ (k : ℕ). (p : ℕ) → p < k → getD w (14 * n + p) 0 < k) (sym c) (sorted-cell r H);
-      low = omega arith;
-      goes = rw e refl;
-    }
+  sorted-count : length (sortedCells w n k) ≡ sortedCount w n k
+  sorted-count = part-length w (14 * n) (sortedCount w n k) (omega (arith, sorted-low, few-cells r gr))
+
+  pub sorted-below : (p : ℕ) → p < length (sortedCells w n k) → getD (sortedCells w n k) p 0 < k
+  sorted-below p h =
+      let m : p < sortedCount w n k = omega (arith, sorted-count) in
+      omega (arith, part-at w (14 * n) (sortedCount w n k) p m, sorted-cell r H p (omega (arith, sorted-low, cell-count r gr)), cell-count r gr)
+
+  pub turns-start : Falling (part w (6 * n) k) → {q : ℕ} → q ≡ back * back → Turns v n ps k w w q
+  unfolding closePairs
+  turns-start f {q} e = record {
+    leading = leading-start r gr l f;
+    count = sorted-count;
+    few = sorted-low;
+    below = sorted-below;
+    low = omega arith;
+    goes = rw e refl;
+  }
 
 module _ {ps : List ℤ} {v : ValidParams} {n k : ℕ} {w₀ w : List ℕ} {q : ℕ} (i : Turns v n ps k w₀ w q) where
   abbrev G : Geometry
@@ -183,9 +182,6 @@ module _ {ps : List ℤ} {v : ValidParams} {n k : ℕ} {w₀ w : List ℕ} {q : 
       sym (part-at w (14 * n) m p h)
       ∙ ap (λ (z : List ℕ). getD z p 0) (ap (λ (z : List ℕ). part z (14 * n) m) (L .still)
       ∙ part-above w₀ (14 * n) m (6 * n) (part w (6 * n) k) (omega (arith, L .few, part-length w (6 * n) k (omega (arith, L .few, L .room, L .size)))) (omega (arith, L .room)))
-
-  place-low : (p : ℕ) → p < sortedCount w₀ n k → getD cs p 0 < k
-  place-low p h = omega (arith, part-at w₀ (14 * n) (sortedCount w₀ n k) p h, i .below p (omega (arith, i .few)))
 
   module _ (h : q < back * sortedCount w₀ n k) where
     abbrev p₁ : ℕ
@@ -211,7 +207,7 @@ module _ {ps : List ℤ} {v : ValidParams} {n k : ℕ} {w₀ w : List ℕ} {q : 
       d-is = ed ∙ place-still p₂ earlier
 
       pub cells-low : (c < k) × (d < k)
-      cells-low = (omega (arith, c-is, place-low p₁ later), omega (arith, d-is, place-low p₂ earlier))
+      cells-low = (omega (arith, c-is, i .below p₁ (omega (arith, later, i .count))), omega (arith, d-is, i .below p₂ (omega (arith, earlier, i .count))))
 
       abbrev now : List (ℕ × ℕ)
       now = closePair v n ps c d
@@ -225,12 +221,7 @@ module _ {ps : List ℤ} {v : ValidParams} {n k : ℕ} {w₀ w : List ℕ} {q : 
 
       within : Within k now
       unfolding closePair
-      within a b j = go (closeAt v n ps c d) j
-        where
-          go : (x : Bool) → In {A = ℕ × ℕ} (a, b) (cond x ((c, d) ∷ []) []) → (a < k) × (b < k)
-          go true (inl e) = subst (λ (z : ℕ × ℕ). (z .0 < k) × (z .1 < k)) (sym e) cells-low
-          go true (inr x) = absurd x
-          go false x = absurd x
+      within = if-within (closeAt v n ps c d) c d (cells-low .0) (cells-low .1)
 
       pub turns-on : {w' : List ℕ} → w' ≡ over w (6 * n) (left (geometryAt v n ps) (closePair v n ps c d) (part w (6 * n) k)) → Turns v n ps k w₀ w' (q + 1)
       turns-on {w'} e =

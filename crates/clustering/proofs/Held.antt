@@ -19,7 +19,7 @@ use Rattle.cells_grid.specs.Lawful.{Lawful}
 use Rattle.cells_grid.specs.Ready.{ready-lawful}
 use Rattle.cells_grid.specs.Arrangement.{cellAt, coreBit, Arranged}
 use Rattle.cells_grid.specs.Places.{endIn}
-use Rattle.cells_grid.specs.ArrangementLaws.{cell-at-below, words-count, first-word, cell-size, number-word, number-below, core-word}
+use Rattle.cells_grid.specs.ArrangementLaws.{words-count, first-word, first-word-low, cell-size, number-word, number-below, core-word}
 use Rattle.core_cells.specs.Forest.{Grown}
 use Rattle.core_cells.specs.ForestLaws.{word-room, is-core-cell, no-tree-node}
 use Rattle.clustering.specs.Uniting.{pairAt}
@@ -77,7 +77,7 @@ module _ {ps : List ℤ} {v : ValidParams} {n : ℕ} (r : Ready ps v n) {k : ℕ
   first-held = first-word g lawful (gr .cored .cells) n frames
 
   pub first-low : (c : ℕ) → c < k → getD w (n + c) 0 < n
-  first-low c h = omega (arith, first-held c h, cell-at-below g c (is-cell c h), frames)
+  first-low = first-word-low g lawful (gr .cored .cells) n frames
 
   -- the number of a frame's cell
   pub own-held : (i : ℕ) → i < n → getD w i 0 ≡ cellNumber g i

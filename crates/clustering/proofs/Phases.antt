@@ -2,23 +2,23 @@
 use mathlib.Core.Path.{_≡_, sym, ap, ap₂, _∙_, subst}
 use mathlib.Core.Logic.{inl}
 use mathlib.Core.List.{List}
-use Prim.Native.Nat.{ℕ, _+_, _-_, _*_, _<_, _≤_}
+use Prim.Native.Nat.{ℕ, _+_, _-_, _*_, _≤_}
 use native.Mathlib.Nat.{mul-le-mul}
 use native.Mathlib.Omega.{arith}
 use lib.IntN.{ℤ}
-use lib.ListN.{length, getD}
+use lib.ListN.{length}
 use borrow.Rule.Slice.PartMut.{putMid}
 use Rattle.lists.specs.Lists.{numbers, In}
 use Rattle.lists.specs.Words.{over, part, column, Clear}
 use Rattle.lists.specs.ListLaws.{map-same, in-numbers, length-numbers}
 use Rattle.lists.specs.WordLaws.{over-again, over-length}
-use Rattle.lists.specs.PartLaws.{part-length, part-same, part-at, clear-after}
+use Rattle.lists.specs.PartLaws.{part-same, clear-after}
 use Rattle.hyperparams.specs.declared.ValidParams.{ValidParams}
 use Rattle.counting_tree.specs.Geometry.{Geometry}
 use Rattle.counting_tree.specs.Ready.{geometryAt, Ready}
 use Rattle.cells_grid.specs.Cells.{cells}
-use Rattle.cells_grid.specs.Listing.{sortedCount, listOf, CellsSorted}
-use Rattle.cells_grid.specs.ListingLaws.{cells-sorted-over, sorted-cell}
+use Rattle.cells_grid.specs.Listing.{listOf, CellsSorted}
+use Rattle.cells_grid.specs.ListingLaws.{cells-sorted-over}
 use Rattle.core_cells.specs.Forest.{Grown}
 use Rattle.core_cells.specs.ForestLaws.{grown-over}
 use Rattle.partitions.specs.Leaders.{Falling, root}
@@ -34,7 +34,7 @@ use Rattle.clustering.specs.Close.{sortedCells, closePairs}
 use Rattle.clustering.specs.CloseLaws.{close-in}
 use Rattle.clustering.proofs.Held.{frames, few-cells, cell-count}
 use Rattle.clustering.proofs.Lent.{lent, lent-length, back}
-use Rattle.clustering.proofs.Closing.{sorted-low}
+use Rattle.clustering.proofs.Closing.{sorted-below}
 
 module _ {ps : List ℤ} {v : ValidParams} {n : ℕ} (r : Ready ps v n) {k : ℕ} {w : List ℕ} (gr : Grown (geometryAt v n ps) k w) (l : 7 * n ≤ length w) where
   abbrev g : Geometry
@@ -134,13 +134,7 @@ module _ {ps : List ℤ} {v : ValidParams} {n : ℕ} (r : Ready ps v n) {k : ℕ
       close = closePairs v n ps (sortedCells w₁ n k)
 
       close-some : (a b : ℕ) → In (a, b) close → In (a, b) (pairsOf g)
-      close-some = close-in r (sortedCells w₁ n k) low
-        where
-          low : (p : ℕ) → p < length (sortedCells w₁ n k) → getD (sortedCells w₁ n k) p 0 < length (cells g)
-          low p h =
-              let m = sorted-low r grown-first sorted-first in
-              let l : p < sortedCount w₁ n k = omega (arith, part-length w₁ (14 * n) (sortedCount w₁ n k) (omega (arith, few, same-first))) in
-              omega (arith, part-at w₁ (14 * n) (sortedCount w₁ n k) p l, sorted-cell r sorted-first p (omega (arith, cell-count r gr)))
+      close-some = close-in r (sortedCells w₁ n k) (λ p h. omega (arith, sorted-below r grown-first sorted-first (omega (arith, same-first)) p h, cell-count r gr))
 
       -- what they leave of the leaders
       abbrev C : List ℕ

@@ -1,7 +1,7 @@
 -- Cells that can be united with no search: those that stand together among the sorted cells, and whose first frames are core frames nearer than t. Definitions only.
 use mathlib.Core.Bool.{Bool, _&&_, cond}
 use mathlib.Core.List.{List, [], _∷_, map}
-use Prim.Native.Nat.{ℕ, _+_, _-_, _*_, _/_, _%_}
+use Prim.Native.Nat.{ℕ, _-_, _*_, _/_, _%_}
 use lib.Dec.{ltb}
 use lib.IntN.{ℤ}
 use lib.ListN.{length, getD}
@@ -19,7 +19,7 @@ use Rattle.cells_grid.specs.Listing.{sortedCount}
 abbrev pub back : ℕ
 back = 8
 
--- the cells of turn q: each cell but the first few, with each of those before it
+-- the cells of turn q: each cell but the first eight, with each of the eight before it
 abbrev pub laterAt : List ℕ → ℕ → ℕ
 laterAt zs q = getD zs (q / back) 0
 

@@ -3,7 +3,7 @@ use mathlib.Core.Path.{_≡_, refl, sym, subst}
 use mathlib.Core.Logic.{inl, inr}
 use mathlib.Core.Bool.{Bool, true, false, _&&_, cond}
 use mathlib.Core.List.{List, [], _∷_, map}
-use Prim.Native.Nat.{ℕ, _+_, _-_, _*_, _/_, _%_, _<_, _≤_}
+use Prim.Native.Nat.{ℕ, _-_, _*_, _/_, _%_, _<_}
 use native.Mathlib.Omega.{arith}
 use lib.Dec.{T, ltb, ltb→lt, le→leb}
 use lib.IntN.{ℤ}
@@ -18,14 +18,14 @@ use Rattle.counting_tree.specs.Domain.{Counts}
 use Rattle.counting_tree.specs.Paths as Paths
 use Rattle.counting_tree.specs.Ready.{geometryAt, Ready, at-frames}
 use Rattle.counting_tree.specs.Reach.{near-reaches}
-use Rattle.cells_grid.specs.Cells.{cells, core, coreMembers, coreCell, listed, count}
+use Rattle.cells_grid.specs.Cells.{cells, core, coreMembers, coreCell}
 use Rattle.cells_grid.specs.Lawful.{Lawful}
 use Rattle.cells_grid.specs.Ready.{ready-lawful}
 use Rattle.cells_grid.specs.CellLaws.{core-in, count-path}
 use Rattle.cells_grid.specs.Arrangement.{cellAt}
 use Rattle.cells_grid.specs.ArrangementLaws.{cell-at-below, listed-at}
 use Rattle.clustering.specs.Clusters.{touches}
-use Rattle.clustering.specs.Uniting.{pairAt, pairsOf, touchAt}
+use Rattle.clustering.specs.Uniting.{pairAt, pairsOf}
 use Rattle.clustering.specs.UnitingLaws.{parts-pair, pairs-in}
 use Rattle.clustering.specs.Close.{back, laterAt, earlierAt, closeAt, closePair, closeTurns, closePairs}
 

@@ -35,6 +35,12 @@ chain-along : {C D : ℕ → Type 0} {S R : ℕ → ℕ → Type 0} (f : ℕ →
 chain-along f h k (alone {p} c) = alone (h p c)
 chain-along f h k (step {p} {q} c s t) = step (h p c) (k p q c (chain-first t) s) (chain-along f h k t)
 
+-- a pair, or none
+pub if-within : (x : Bool) (c d : ℕ) {k : ℕ} → c < k → d < k → Within k (cond x ((c, d) ∷ []) [])
+if-within true c d {k} h l a b (inl e) = subst (λ (z : ℕ × ℕ). (z .0 < k) × (z .1 < k)) (sym e) (h, l)
+if-within true c d h l a b (inr j) = absurd j
+if-within false c d h l a b j = absurd j
+
 module _ (g : Geometry) where
   -- ---- the pairs
   abbrev cellCount : ℕ
@@ -95,12 +101,7 @@ module _ (g : Geometry) where
 
   pub one-within : (c d : ℕ) {k : ℕ} → c < k → d < k → Within k (onePair g c d)
   unfolding onePair
-  one-within c d {k} h l a b j = go (pairAt g c d) j
-    where
-      go : (x : Bool) → In {A = ℕ × ℕ} (a, b) (cond x ((c, d) ∷ []) []) → (a < k) × (b < k)
-      go true (inl e) = subst (λ (z : ℕ × ℕ). (z .0 < k) × (z .1 < k)) (sym e) (h, l)
-      go true (inr j) = absurd j
-      go false j = absurd j
+  one-within c d h l = if-within (pairAt g c d) c d h l
 
   pub with-within : (c : ℕ) (ds : List ℕ) {k : ℕ} → c < k → Below k ds → Within k (pairsWith g c ds)
   unfolding pairsWith

@@ -1,5 +1,5 @@
 // Uniting the linked core cells (`unite_neighbouring_cells` of the source's CellsGrid): by trials of which there is a given number,
-// and by the cells' lists with no count.
+// and by the cells' lists with no count, after those that are close.
 use crate::LEADERS;
 use cells_grid::PLACES;
 use cells_grid::STARTS;
@@ -350,7 +350,7 @@ fn meet_close(
     partitions::union(&mut work[a..e], later, earlier);
 }
 
-// Takes the sorted core cells, each with the few before it. (Cells that stand together mostly lie in one block: so most of those that are linked
+// Takes each sorted core cell from place 8 on with the eight before it. (Cells that stand together mostly lie in one block: so most of those that are linked
 // are united with no search, and the search that follows finds them in one set. Turn q is for the cell at place q / 8.)
 fn unite_close_cells(points: &[i16], v: ValidParams, n: usize, k: usize, work: &mut [Word])
     requires { ⌜ Ready (now points) v n × Grown (geometryAt v n (now points)) k (now work) × CellsSorted v n (now points) (now work) ⌝ }

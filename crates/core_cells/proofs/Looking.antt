@@ -7,7 +7,6 @@ use Prim.Native.Nat.{ℕ, _+_, _-_, _*_, _%_, _^_, _<_, _≤_}
 use native.Mathlib.Omega.{arith}
 use native.Mathlib.Nat.{mul-le-mul, one-mul}
 use borrow.Author.Tests.{lt-ltb, le-ltb}
-use lib.IntN.{ℤ}
 use lib.Dec.{leb, ltb, eqb, lit<}
 use lib.Pow.{pow-mono, shl-exact}
 use lib.ListN.{getD}
@@ -15,16 +14,10 @@ use Rattle.lists.specs.Lists.{In, any}
 use Rattle.lists.specs.Words.{part}
 use Rattle.lists.specs.ListLaws.{in-append}
 use Rattle.lists.specs.PartLaws.{part-below, part-snoc}
-use Rattle.hyperparams.specs.declared.ValidParams.{ValidParams}
-use Rattle.counting_tree.specs.Ready.{Ready}
 use Rattle.counting_tree.specs.Sound.{four-power}
 use Rattle.core_cells.specs.Forest.{coreAmong}
 use Rattle.core_cells.specs.Nearest.{CanLook, beyond, leastUntil, outOfReach}
 use Rattle.core_cells.specs.NearestLaws.{among-none, among-first, least-none, least-stop, least-next}
-
--- t × t is far below what no sum of squared differences reaches
-pub square-fits : {ps : List ℤ} {v : ValidParams} {n : ℕ} → Ready ps v n → v .t * v .t ≤ 4294836225
-square-fits r = mul-le-mul {n₂ = 65535} {m₂ = 65535} (r .settings .scale .high) (r .settings .scale .high)
 
 -- the frame at a place
 pub look-below : {w : List ℕ} {n from to : ℕ} → CanLook w n from to → {p x : ℕ} → p < to → x ≡ getD w (3 * n + p) 0 → x < n

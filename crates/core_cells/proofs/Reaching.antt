@@ -2,7 +2,7 @@
 use mathlib.Core.Path.{_≡_, refl, sym, ap, subst, _∙_}
 use mathlib.Core.Logic.{_⊎_, ⊎-elim}
 use mathlib.Core.Bool.{Bool, true, false, not, cond}
-use mathlib.Core.List.{List, []}
+use mathlib.Core.List.{List}
 use Prim.Native.Nat.{ℕ, _+_, _-_, _*_, _^_, _<_, _≤_}
 use native.Mathlib.Omega.{arith}
 use native.Mathlib.Nat.{mul-le-mul-right}
@@ -26,7 +26,7 @@ use Rattle.counting_tree.specs.Geometry.{Geometry, frame, N, FarReach}
 use Rattle.counting_tree.specs.Paths as Paths
 use Rattle.counting_tree.specs.Paths.{onBox}
 use Rattle.counting_tree.specs.Domain.{Counts}
-use Rattle.counting_tree.specs.Ready.{geometryAt, Ready, at-frames}
+use Rattle.counting_tree.specs.Ready.{geometryAt, Ready, at-frames, square-fits}
 use Rattle.counting_tree.specs.Reach.{near-reaches, reaches-far}
 use Rattle.counting_tree.specs.Settled.{settledBy}
 use Rattle.counting_tree.specs.SettledLaws.{settled-disjoint, settled-covered}
@@ -47,7 +47,6 @@ use Rattle.core_cells.specs.RootBox.{rootBox, rootUnless}
 use Rattle.core_cells.specs.RootBoxLaws.{disjoint-count, covered-count, root-centre}
 use Rattle.core_cells.specs.Settling.{settledByLeast, settledByFrames, settledByRoot, Tells}
 use Rattle.core_cells.proofs.Counting.{word-inside}
-use Rattle.core_cells.proofs.Looking.{square-fits}
 use Rattle.core_cells.proofs.Rooted.{first-is, first-low}
 
 -- what is told, where it is not left open, is the answer. (The third variant has neither the first key nor the second.)

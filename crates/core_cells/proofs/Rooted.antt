@@ -17,7 +17,7 @@ use Rattle.counting_tree.specs.Arrays.{placed, boxOf}
 use Rattle.counting_tree.specs.Ready.{geometryAt, Ready, at-frames}
 use Rattle.cells_grid.specs.Ready.{ready-lawful}
 use Rattle.cells_grid.specs.Arrangement.{cellAt}
-use Rattle.cells_grid.specs.ArrangementLaws.{cell-at-below, first-word}
+use Rattle.cells_grid.specs.ArrangementLaws.{first-word, first-word-low}
 use Rattle.core_cells.specs.Forest.{Grown}
 use Rattle.core_cells.specs.RootBox.{rootBox}
 
@@ -29,7 +29,7 @@ module _ {ps : List ℤ} {v : ValidParams} {n k : ℕ} {w : List ℕ} (r : Ready
   first-is = e ∙ first-word g (ready-lawful r) (gr .cored .cells) n (at-frames v n ps) c h
 
   pub first-low : x < n
-  first-low = omega (arith, first-is, cell-at-below g c (omega (arith, gr .cored .cells .count)), at-frames v n ps)
+  first-low = omega (arith, e, first-word-low g (ready-lawful r) (gr .cored .cells) n (at-frames v n ps) c h)
 
   pub first-inside : (v .channels ≤ 4) × (x * v .channels + v .channels ≤ length ps)
   first-inside = (r .settings .scale .most, frame-inside n (v .channels) (length ps) x (r .room) first-low)

@@ -45,7 +45,7 @@ module _ (v : ValidParams) (n : ℕ) (ps : List ℤ) (q c : ℕ) where
   unfoldable pub settledByRoot : IntersectionType
   settledByRoot = cond (isCore (geometryAt v n ps) c) (settledBy v (sumFrom (float 0) (floats (frame v (framesIn n (v .channels) ps) q)) (take (v .channels) (rootBox v n ps c .centre)))) Disjoint
 
-  -- the frames or the root box
+  -- what the frames tell, or else the root box
   abbrev pub toldBy : Bool → IntersectionType
   toldBy frames = cond frames settledByFrames settledByRoot
 

@@ -393,7 +393,7 @@ fn reaches_by_paths(
 }
 
 // What the frames of cell c, or its root box `root`, tell of the count of frame q in its tree.
-fn settled_by(
+fn told_by(
     frames: bool,
     points: &[i16],
     v: ValidParams,
@@ -429,7 +429,7 @@ fn reaches_second(
     ensures { λ r. ⌜ r ≡ nonzero (count (geometryAt v n (now (points .entry))) q (cellAt (geometryAt v n (now (points .entry))) c)) ⌝ }
 {
     let root = root_unless(frames, points, v, n, k, work, c);
-    let told = settled_by(frames, points, v, n, k, work, q, c, root);
+    let told = told_by(frames, points, v, n, k, work, q, c, root);
     if let IntersectionType::Intersecting = told {
         return reaches_by_paths(points, v, n, k, work, q, c);
     }
@@ -451,7 +451,7 @@ pub fn reaches(
     requires { ⌜ Ready (now points) v n × Grown (geometryAt v n (now points)) k (now work) × (q < n) × (c < k) × (root ≡ rootUnless first v n (now points) c) ⌝ }
     ensures { λ r. ⌜ r ≡ nonzero (count (geometryAt v n (now (points .entry))) q (cellAt (geometryAt v n (now (points .entry))) c)) ⌝ }
 {
-    let told = settled_by(first, points, v, n, k, work, q, c, root);
+    let told = told_by(first, points, v, n, k, work, q, c, root);
     if let IntersectionType::Intersecting = told {
         return reaches_second(!first, points, v, n, k, work, q, c);
     }

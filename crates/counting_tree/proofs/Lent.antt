@@ -25,7 +25,7 @@ use Rattle.counting_tree.specs.Arrays.{placed, boxOf}
 use Rattle.counting_tree.specs.WholeDistance.{within-frames}
 use Rattle.counting_tree.specs.Domain.{Counts}
 use Rattle.counting_tree.specs.Sound.{pair}
-use Rattle.counting_tree.specs.Ready.{Ready, geometryAt}
+use Rattle.counting_tree.specs.Ready.{Ready, geometryAt, square-fits}
 use Rattle.counting_tree.specs.Indexes.{placed-first, centres-length}
 use Rattle.counting_tree.proofs.Counts.{take-map}
 
@@ -61,7 +61,7 @@ module _ {ps : List ℤ} {v : ValidParams} {n : ℕ} (r : Ready ps v n) where
   first-place i h = place i 0 (i * d) h (r .settings .scale .some) (sym (add-zero (i * d)))
 
   pub product-fits : (v .t * v .t ≤ 4294836225) × (short * (v .t * v .t) ≤ 17179344900)
-  product-fits = let p : v .t * v .t ≤ 65535 * 65535 = mul-le-mul (r .settings .scale .high) (r .settings .scale .high) in omega arith
+  product-fits = (square-fits r, omega (arith, square-fits r))
 
   -- the first channels of an array are the frame
   module _ (i : ℕ) (h : i < n) (a : List ℤ) (e : a ≡ placed (part ps (i * v .channels) (v .channels))) where

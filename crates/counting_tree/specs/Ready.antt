@@ -2,7 +2,7 @@
 use mathlib.Core.Path.{_≡_, refl, sym, subst}
 use mathlib.Core.List.{List}
 use Prim.Native.Nat.{ℕ, _+_, _*_, _/_, _≤_}
-use native.Mathlib.Nat.{div-add-mod'}
+use native.Mathlib.Nat.{div-add-mod', mul-le-mul}
 use native.Mathlib.Omega.{arith}
 use lib.IntN.{ℤ}
 use lib.ListN.{length}
@@ -39,6 +39,10 @@ module _ (v : ValidParams) (n : ℕ) (ps : List ℤ) where
   pub at-levels : geometryAt v n ps .levels ≡ 1 + v .s
   unfolding geometryOf
   at-levels = refl
+
+-- t × t is far below what no sum of squared differences reaches
+pub square-fits : {ps : List ℤ} {v : ValidParams} {n : ℕ} → Ready ps v n → v .t * v .t ≤ 4294836225
+square-fits r = mul-le-mul {n₂ = 65535} {m₂ = 65535} (r .settings .scale .high) (r .settings .scale .high)
 
 -- every accepted run
 pub ready-of : (p : Params) (ps : List ℤ) (labels kinds work : ℕ) {v : ValidParams} → checkedOf p (length ps) labels kinds work ≡ Valid v → Ready ps v (length ps / v .channels)

@@ -6,7 +6,7 @@ use borrow.Author.Needs.{needs}
 use Rattle.lists.specs.LoopLaws.{Fill, fill-step}
 use Rattle.counting_tree.specs.Ready.{geometryAt}
 use Rattle.cells_grid.specs.Arrangement.{coreBit}
-use Rattle.cells_grid.proofs.Core.{label-hash, label-start, label-length, label-arranged, label-sorted, label-end}
+use Rattle.cells_grid.proofs.Core.{label-sort, label-start, label-length, label-arranged, label-sorted, label-end}
 use Rattle.cells_grid.proofs.label_frames.Statement.{statement}
 use Rattle.cells_grid.proofs.label_frames.Tie as tie
 
@@ -20,7 +20,7 @@ read-counts-requires : tie.Need-read-counts-requires Inv-loop μ-loop
 read-counts-requires c κs = search needs
 
 sort-frames-requires : tie.Need-sort-frames-requires Inv-loop μ-loop
-sort-frames-requires c κs = label-hash (c .before .before .before .args .work .now) (c .before .before .before .pre)
+sort-frames-requires c κs = label-sort (c .before .before .before .args .work .now) (c .before .before .before .pre)
 
 loop-holds : tie.Need-loop-holds Inv-loop μ-loop
 loop-holds c = label-start (c .before .before .before .before .before .before .args .work .now) (c .before .before .before .before .before .before .pre) (c .before .before .sort-frames .ensures)

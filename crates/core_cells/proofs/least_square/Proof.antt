@@ -4,8 +4,8 @@ use Prim.Native.Nat.{_-_, _<_}
 use native.Mathlib.Omega.{arith}
 use Rattle.counting_tree.specs.Frames.{framesIn}
 use Rattle.counting_tree.specs.Geometry.{N}
-use Rattle.counting_tree.specs.Ready.{Ready}
-use Rattle.core_cells.proofs.Looking.{square-fits, look-below, Looking, looking-start, looking-miss, looking-stop, looking-less, looking-more, looking-end}
+use Rattle.counting_tree.specs.Ready.{Ready, square-fits}
+use Rattle.core_cells.proofs.Looking.{look-below, Looking, looking-start, looking-miss, looking-stop, looking-less, looking-more, looking-end}
 use Rattle.core_cells.proofs.least_square.Statement.{statement}
 use Rattle.core_cells.proofs.least_square.Tie as tie
 

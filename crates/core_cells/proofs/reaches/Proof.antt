@@ -4,8 +4,8 @@ use Rattle.core_cells.proofs.Reaching.{settled-is}
 use Rattle.core_cells.proofs.reaches.Statement.{statement}
 use Rattle.core_cells.proofs.reaches.Tie as tie
 
-settled-by-requires : tie.Need-settled-by-requires
-settled-by-requires c κs = search needs
+told-by-requires : tie.Need-told-by-requires
+told-by-requires c κs = search needs
 
 enum-told : tie.Need-enum-told
 enum-told c = search needs
@@ -20,13 +20,13 @@ is-covered-requires : tie.Need-is-covered-requires
 is-covered-requires c κs = search needs
 
 returns-2 : tie.Need-returns-2
-returns-2 c = settled-is (c .before .before .settled-by .result) (λ z. rw z at (c .before .match .keys2)) (c .before .before .settled-by .ensures .1) (c .is-covered .ensures)
+returns-2 c = settled-is (c .before .before .told-by .result) (λ z. rw z at (c .before .match .keys2)) (c .before .before .told-by .ensures .1) (c .is-covered .ensures)
 
 pub reaches-spec : {M : Type 1} → statement M
 reaches-spec =
     tie.close
     (tie.spec
-    settled-by-requires
+    told-by-requires
     enum-told
     reaches-second-requires
     returns

@@ -7,8 +7,8 @@ use Rattle.core_cells.proofs.reaches_second.Tie as tie
 root-unless-requires : tie.Need-root-unless-requires
 root-unless-requires c κs = search needs
 
-settled-by-requires : tie.Need-settled-by-requires
-settled-by-requires c κs = search needs
+told-by-requires : tie.Need-told-by-requires
+told-by-requires c κs = search needs
 
 enum-told : tie.Need-enum-told
 enum-told c = search needs
@@ -23,14 +23,14 @@ is-covered-requires : tie.Need-is-covered-requires
 is-covered-requires c κs = search needs
 
 returns-2 : tie.Need-returns-2
-returns-2 c = settled-is (c .before .before .settled-by .result) (λ z. rw z at (c .before .match .keys2)) (c .before .before .settled-by .ensures .1) (c .is-covered .ensures)
+returns-2 c = settled-is (c .before .before .told-by .result) (λ z. rw z at (c .before .match .keys2)) (c .before .before .told-by .ensures .1) (c .is-covered .ensures)
 
 pub reaches-second-spec : {M : Type 1} → statement M
 reaches-second-spec =
     tie.close
     (tie.spec
     root-unless-requires
-    settled-by-requires
+    told-by-requires
     enum-told
     reaches-by-paths-requires
     returns

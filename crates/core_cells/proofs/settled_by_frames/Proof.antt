@@ -5,7 +5,7 @@ use mathlib.Core.Bool.{true, false}
 use Prim.Native.Nat.{_*_}
 use borrow.Author.Tests.{lt-ltb, le-ltb}
 use native.Mathlib.Omega.{arith}
-use Rattle.core_cells.proofs.Looking.{square-fits}
+use Rattle.counting_tree.specs.Ready.{square-fits}
 use Rattle.core_cells.proofs.Reaching.{slot, cells-fit, can-look, frames-value, hit, out}
 use Rattle.core_cells.proofs.settled_by_frames.Statement.{statement}
 use Rattle.core_cells.proofs.settled_by_frames.Tie as tie

@@ -1,5 +1,5 @@
 -- `sorted_count` meets its contract.
-use mathlib.Core.Path.{sym, ap}
+use mathlib.Core.Path.{sym}
 use native.Mathlib.Omega.{arith}
 use Rattle.lists.specs.SortLaws.{begin-first}
 use borrow.Author.Needs.{needs}

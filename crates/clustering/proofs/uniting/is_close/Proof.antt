@@ -1,7 +1,8 @@
 -- `is_close` meets its contract: cells whose first frames are core frames nearer than t touch.
 use native.Mathlib.Omega.{arith}
+use Rattle.counting_tree.specs.Ready.{square-fits}
 use Rattle.clustering.proofs.Held.{room, few-cells}
-use Rattle.clustering.proofs.Closing.{square-fits, frames-low, too-far, not-core, told}
+use Rattle.clustering.proofs.Closing.{frames-low, too-far, not-core, told}
 use Rattle.clustering.proofs.uniting.is_close.Statement.{statement}
 use Rattle.clustering.proofs.uniting.is_close.Tie as tie
 

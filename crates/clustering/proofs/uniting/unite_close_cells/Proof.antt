@@ -2,10 +2,8 @@
 use mathlib.Core.Path.{refl}
 use Prim.Native.Nat.{_-_}
 use native.Mathlib.Omega.{arith}
-use Rattle.counting_tree.specs.Ready.{geometryAt}
 use Rattle.clustering.proofs.Held.{few-cells}
 use Rattle.clustering.proofs.Closing.{Turns, sorted-low, turns-start, places-fit, cells-low, turns-on, turns-end}
-use borrow.Author.Needs.{needs}
 use Rattle.clustering.proofs.uniting.unite_close_cells.Statement.{statement}
 use Rattle.clustering.proofs.uniting.unite_close_cells.Tie as tie
 
@@ -21,7 +19,7 @@ sorted-count-requires c κs = (few-cells (c .before .before .pre .0 .0) (c .befo
 mul-turns : tie.Need-mul-turns Inv-loop μ-loop
 mul-turns c =
     let s = c .before .before .before .pre in
-    omega (arith, c .sorted-count .ensures, sorted-low (s .0 .0) (s .0 .1) (s .0 .2), few-cells (s .0 .0) (s .0 .1))
+    omega (arith, c .sorted-count .ensures, sorted-low (s .0 .0) (s .0 .1) (s .0 .2) (s .1 .0), few-cells (s .0 .0) (s .0 .1))
 
 mul-q : tie.Need-mul-q Inv-loop μ-loop
 mul-q c = omega arith
