@@ -25,7 +25,7 @@ const ENDS: usize = 16;
 const BUCKETS: usize = 8;
 
 // The sorted frames, their keys and those ends stand in so many words a frame, from 14n on.
-pub const WORDS: usize = 10;
+pub const WORDS: usize = ENDS + BUCKETS - blocks::PLACES;
 
 // How wide the blocks are.
 fn width(v: ValidParams) -> u64
