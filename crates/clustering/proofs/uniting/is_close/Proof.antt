@@ -30,7 +30,7 @@ mul-if1 c = omega (arith, square-fits (c .before .before .before .before .before
 returns : tie.Need-returns
 returns c =
     let s = c .before .before .before .before .before .before .pre in
-    too-far (s .0) (s .1) (s .2) (s .3) (c .before .before .before .before .word .ensures) (c .before .before .before .word2 .ensures) (c .before .before .square-apart .ensures .0) (c .if1 .taken)
+    too-far (s .0) (s .1) (s .2) (s .3) (c .before .before .before .before .word .ensures) (c .before .before .before .word2 .ensures) (c .before .before .square-apart .ensures .0) (omega (arith, c .if1 .taken))
 
 is-core-requires : tie.Need-is-core-requires
 is-core-requires c κs =
@@ -40,7 +40,7 @@ is-core-requires c κs =
 returns-2 : tie.Need-returns-2
 returns-2 c =
     let s = c .before .before .before .before .before .before .before .before .pre in
-    not-core (s .0) (s .1) (s .2) (s .3) (c .before .before .before .before .before .before .word .ensures) (c .before .before .before .before .before .word2 .ensures) (c .before .before .before .before .square-apart .ensures .0) (c .before .before .if1 .left) (c .before .is-core .ensures) (c .if2 .taken)
+    not-core (s .0) (s .1) (s .2) (s .3) (c .before .before .before .before .before .before .word .ensures) (c .before .before .before .before .before .word2 .ensures) (c .before .before .before .before .square-apart .ensures .0) (omega (arith, c .before .before .if1 .left)) (c .before .is-core .ensures) (c .if2 .taken)
 
 is-core-requires-2 : tie.Need-is-core-requires-2
 is-core-requires-2 c κs =
@@ -50,7 +50,7 @@ is-core-requires-2 c κs =
 returns-3 : tie.Need-returns-3
 returns-3 c =
     let s = c .before .before .before .before .before .before .before .before .before .pre in
-    told (s .0) (s .1) (s .2) (s .3) (c .before .before .before .before .before .before .before .word .ensures) (c .before .before .before .before .before .before .word2 .ensures) (c .before .before .before .before .before .square-apart .ensures .0) (c .before .before .before .if1 .left) (c .before .before .is-core .ensures) (c .before .if2 .left) (c .before .before .before .before .before .square-apart .ensures .1 .1) (c .is-core2 .ensures)
+    told (s .0) (s .1) (s .2) (s .3) (c .before .before .before .before .before .before .before .word .ensures) (c .before .before .before .before .before .before .word2 .ensures) (c .before .before .before .before .before .square-apart .ensures .0) (omega (arith, c .before .before .before .if1 .left)) (c .before .before .is-core .ensures) (c .before .if2 .left) (c .before .before .before .before .before .square-apart .ensures .1 .1) (c .is-core2 .ensures)
 
 pub is-close-spec : {M : Type 1} → statement M
 is-close-spec =
