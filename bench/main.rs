@@ -54,7 +54,8 @@ struct Set {
     points: Vec<i16>,
 }
 
-fn make(rng: &mut Random, kind: &str, channels: usize, n: usize) -> Vec<i16> {
+/// `noise` is how far telemetry strays from its curve.
+fn make(rng: &mut Random, kind: &str, channels: usize, n: usize, noise: f64) -> Vec<i16> {
     let waves = [(12000.0, 15.0), (9000.0, 15.0), (4000.0, 15.0), (1500.0, 30.0)];
     let hearts: Vec<f64> = (0..5 * channels).map(|_| rng.between(-20000.0, 20000.0)).collect();
     let mut points = Vec::new();
@@ -65,7 +66,7 @@ fn make(rng: &mut Random, kind: &str, channels: usize, n: usize) -> Vec<i16> {
                 "dense" => count(hearts[heart + k] + 60.0 * rng.normal()),
                 "uniform" => rng.range(-32768, 32767) as i16,
                 "telemetry" => count(
-                    waves[k].0 * (std::f64::consts::TAU / n as f64 * i as f64 * waves[k].1 + 0.7 * k as f64).sin() + 25.0 * rng.normal(),
+                    waves[k].0 * (std::f64::consts::TAU / n as f64 * i as f64 * waves[k].1 + 0.7 * k as f64).sin() + noise * rng.normal(),
                 ),
                 _ => unreachable!(),
             });
@@ -73,6 +74,9 @@ fn make(rng: &mut Random, kind: &str, channels: usize, n: usize) -> Vec<i16> {
     }
     points
 }
+
+/// How far telemetry strays from its curve.
+const NOISE: f64 = 25.0;
 
 struct Times {
     scan: f64,
@@ -214,7 +218,7 @@ fn main() {
     for channels in [4, 1] {
         println!("4,096 frames, {} channel{}\n\n| set | s | original, scan | original, kd-tree | this library | times faster |\n|---|---|---|---|---|---|", channels, if channels > 1 { "s" } else { "" });
         for (name, kind, t, min_points) in shapes {
-            let points = make(&mut Random::new(seed), kind, channels, 4096);
+            let points = make(&mut Random::new(seed), kind, channels, 4096, NOISE);
             for s in [0, 3, 7, 10] {
                 let times = measure(
                     &Set {
@@ -251,7 +255,7 @@ fn main() {
         t,
         min_points,
         s: 3,
-        points: make(&mut Random::new(seed), kind, 4, frames),
+        points: make(&mut Random::new(seed), kind, 4, frames, NOISE),
     };
     let head = "| set | 512 | 1,024 | 2,048 | 4,096 | original grows | this library grows |\n|---|---|---|---|---|---|---|";
     println!("Growth, 4 channels, s 3: original (faster search) / this library, and the time at 4,096 frames over that at 512\n\n{}", head);
@@ -263,6 +267,28 @@ fn main() {
     for shape in shapes {
         growth(shape.0, |n| {
             let sets: Vec<Set> = (0..runs).map(|k| set(shape, n, seed + k)).collect();
+            fresh(&sets)
+        });
+    }
+    // With fewer frames, t is as much larger as keeps the frames around a frame as many: uniform frames fill four channels, and telemetry
+    // lies along a curve, from which it then strays as much farther.
+    let scaled = |(name, kind, t, min_points): (&'static str, &str, f64, usize), frames: usize, seed: u64| {
+        let fewer = 4096.0 / frames as f64;
+        let (wider, noise) = if kind == "uniform" { (fewer.powf(0.25), NOISE) } else { (fewer, NOISE * fewer) };
+        Set {
+            name,
+            channels: 4,
+            frames,
+            t: (t * wider).round(),
+            min_points,
+            s: 3,
+            points: make(&mut Random::new(seed), kind, 4, frames, noise),
+        }
+    };
+    println!("\nThe same with as many frames around a frame in each set: t, and how far telemetry strays, as much larger as the frames are fewer\n\n{}", head);
+    for shape in shapes.iter().filter(|shape| shape.1 != "dense") {
+        growth(shape.0, |n| {
+            let sets: Vec<Set> = (0..runs).map(|k| scaled(*shape, n, seed + k)).collect();
             fresh(&sets)
         });
     }
