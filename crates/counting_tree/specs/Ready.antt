@@ -40,7 +40,7 @@ module _ (v : ValidParams) (n : ℕ) (ps : List ℤ) where
   unfolding geometryOf
   at-levels = refl
 
--- t × t is far below what no sum of squared differences reaches
+-- t is at most 65,535
 pub square-fits : {ps : List ℤ} {v : ValidParams} {n : ℕ} → Ready ps v n → v .t * v .t ≤ 4294836225
 square-fits r = mul-le-mul {n₂ = 65535} {m₂ = 65535} (r .settings .scale .high) (r .settings .scale .high)
 

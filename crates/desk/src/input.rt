@@ -117,7 +117,7 @@ fn are_lines(input: &[u8], k: usize, n: usize, from: usize) -> bool
 }
 
 // The channels of line one.
-pub fn channels(input: &[u8]) -> usize
+pub(crate) fn channels(input: &[u8]) -> usize
     ensures value { λ r. ⌜ r ≡ channelsOf (now (input .entry)) ⌝ }
     ensures bound { λ r. ⌜ r < 256 ⌝ }
 {
@@ -125,7 +125,7 @@ pub fn channels(input: &[u8]) -> usize
 }
 
 // How many frame lines are as long as what follows line one.
-pub fn frame_count(input: &[u8]) -> usize
+pub(crate) fn frame_count(input: &[u8]) -> usize
     ensures { λ r. ⌜ r ≡ frameCount (now (input .entry)) ⌝ }
 {
     let d = channels(input);
@@ -136,7 +136,7 @@ pub fn frame_count(input: &[u8]) -> usize
 }
 
 // Whether the input is not malformed, "number 10".
-pub fn well_formed(input: &[u8]) -> bool
+pub(crate) fn well_formed(input: &[u8]) -> bool
     ensures { λ r. ⌜ r ≡ wellFormed (now (input .entry)) ⌝ }
 {
     if !is_line(input, 0, LINE_ONE) {
@@ -173,7 +173,7 @@ fn count_at(input: &[u8], d: usize, i: usize) -> i16
 }
 
 // The first n counts of the frames of d channels.
-pub fn read_points(input: &[u8], d: usize, n: usize, points: &mut [i16])
+pub(crate) fn read_points(input: &[u8], d: usize, n: usize, points: &mut [i16])
     requires { ⌜ (1 ≤ d) × ((n ≤ 1024) × (n ≤ length (now points))) ⌝ }
     ensures { λ _. ⌜ now (points .exit) ≡ over (now (points .entry)) 0 (column (countAt (now (input .entry)) d) n) ⌝ }
 {
@@ -195,7 +195,7 @@ fn slack(s: usize) -> f64
 }
 
 // The settings of line one.
-pub fn settings(input: &[u8]) -> Params
+pub(crate) fn settings(input: &[u8]) -> Params
     ensures { λ r. ⌜ r ≡ settingsOf (parsed (now (input .entry))) ⌝ }
 {
     Params {

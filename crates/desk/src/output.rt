@@ -69,7 +69,7 @@ fn put_counts(output: &mut [u8], at: usize, clusters: usize, cores: usize)
 }
 
 // "A refusal prints only one line, `ee` and its number in 2 such digits."
-pub fn put_refusal(output: &mut [u8], number: u8)
+pub(crate) fn put_refusal(output: &mut [u8], number: u8)
     requires { ⌜ 5 ≤ length (now output) ⌝ }
     ensures { λ _. ⌜ now (output .exit) ≡ over (now (output .entry)) 0 (refusalLine number) ⌝ }
 {
@@ -80,7 +80,7 @@ pub fn put_refusal(output: &mut [u8], number: u8)
 }
 
 // The lines of an outcome, and how many bytes they are.
-pub fn put_outcome(
+pub(crate) fn put_outcome(
     output: &mut [u8],
     outcome: Outcome,
     kinds: &[u8],
