@@ -1,5 +1,5 @@
 -- The phases of a run in the work words: what each finds there, and what stands there in the end.
-use mathlib.Core.Path.{_≡_, ap, ap₂, subst, _∙_}
+use mathlib.Core.Path.{_≡_, sym, ap, ap₂, subst, _∙_}
 use mathlib.Core.Bool.{Bool, true, false, cond}
 use mathlib.Core.List.{List, [], _∷_}
 use Prim.Native.Nat.{ℕ, _+_, _*_, _<_, _≤_}
@@ -24,7 +24,7 @@ use Rattle.cells_grid.specs.Arrangement.{coreBit, Arranged, Cored}
 use Rattle.cells_grid.specs.ArrangementLaws as ArrangementLaws
 use Rattle.cells_grid.specs.ArrangementLaws.{cells-le, cored, core-word, populated-arranged}
 use Rattle.cells_grid.specs.Places.{populated}
-use Rattle.core_cells.specs.Forest.{paths, treeWord, forestTo, Grown}
+use Rattle.core_cells.specs.Forest.{pathLimit, treeWord, forestTo, Grown}
 use Rattle.core_cells.specs.ForestLaws.{forest-length, nodes-fit, grown, grown-over}
 use Rattle.clustering.specs.Clusters.{clusters, place, touched, borderKind, labelBy, kindOf}
 use Rattle.clustering.specs.Uniting.{lowestAt}
@@ -73,11 +73,15 @@ module _ {ps : List ℤ} {v : ValidParams} {n : ℕ} (r : Ready ps v n) (w : Lis
   abbrev m : ℕ
   m = workWords n (v .s)
 
+  -- cells with more core frames have a tree
+  abbrev limit : ℕ
+  limit = pathLimit (g .levels) k
+
   -- the nodes of all trees stand in the needed words
-  nodes-room : 16 * n + length (forestTo g paths k) ≤ m
+  nodes-room : 16 * n + length (forestTo g limit k) ≤ m
   nodes-room =
       let l : g .frames * (g .levels + 1) ≡ n * (1 + v .s + 1) = ap₂ (λ (f l : ℕ). f * (l + 1)) e (at-levels v n ps) in
-      omega (arith, forest-length g paths k, nodes-fit g paths L k (le-refl k))
+      omega (arith, forest-length g limit k, nodes-fit g limit L k (le-refl k))
 
   abbrev cores : List ℕ
   cores = column (coreBit g) n
@@ -113,21 +117,21 @@ module _ {ps : List ℤ} {v : ValidParams} {n : ℕ} (r : Ready ps v n) (w : Lis
   unfolding treed
   treed-within =
       within-over (within-over (within-more cored-within m (omega arith))
-      (5 * n) (column (treeWord g paths) k) (omega (arith, few, length-numbers (treeWord g paths) k)) room)
-      (16 * n) (forestTo g paths k) nodes-room room
+      (5 * n) (column (treeWord g limit) k) (omega (arith, few, length-numbers (treeWord g limit) k)) room)
+      (16 * n) (forestTo g limit k) nodes-room room
 
   clear-after-build-trees : Clear w (10 * n) (14 * n) → Clear (treed g n w) (10 * n) (6 * n)
   unfolding treed
   clear-after-build-trees c =
-      let trees = column (treeWord g paths) k in
+      let trees = column (treeWord g limit) k in
       let cored = over (populated g w) (4 * n) cores in
-      let l = length-numbers (treeWord g paths) k in
-      clear-before (over cored (5 * n) trees) (10 * n) (6 * n) (16 * n) (forestTo g paths k) (omega (arith, few, cored-within .size, over-length cored (5 * n) trees (omega (arith, few, cored-within .size)))) (omega arith)
+      let l = length-numbers (treeWord g limit) k in
+      clear-before (over cored (5 * n) trees) (10 * n) (6 * n) (16 * n) (forestTo g limit k) (omega (arith, few, cored-within .size, over-length cored (5 * n) trees (omega (arith, few, cored-within .size)))) (omega arith)
       (clear-after cored (10 * n) (6 * n) (5 * n) trees (omega (arith, cored-within .size)) (omega (arith, few)) (first-clear n (6 * n) cored (omega arith) (clear-after-label-points c)))
 
   after-build-trees : Grown g k (treed g n w)
   unfolding treed
-  after-build-trees = grown after-label-points e (omega (arith, cored-within .size)) paths
+  after-build-trees = grown after-label-points e (omega (arith, cored-within .size)) limit
 
   -- ---- `label`
   abbrev lowest : List ℕ
@@ -192,10 +196,14 @@ module _ {ps : List ℤ} {v : ValidParams} {n : ℕ} (r : Ready ps v n) (w : Lis
       pub clear₂ : Clear w (10 * n) (14 * n) → Clear w₂ (10 * n) (3 * n)
       clear₂ c = rw same₂ (first-clear n (3 * n) (over (populated g w) (4 * n) cores) (omega arith) (clear-after-label-points c))
 
-      module _ {w₃ : List ℕ} (e₃ : w₃ ≡ over (over w₂ (5 * n) (column (treeWord g paths) k₁)) (16 * n) (forestTo g paths k₁)) where
+      -- l is the limit that the run works out
+      module _ {l : ℕ} (el : l ≡ pathLimit (1 + v .s) k₁) {w₃ : List ℕ} (e₃ : w₃ ≡ over (over w₂ (5 * n) (column (treeWord g l) k₁)) (16 * n) (forestTo g l k₁)) where
+        limit-is : l ≡ limit
+        limit-is = el ∙ ap₂ pathLimit (sym (at-levels v n ps)) p
+
         same₃ : w₃ ≡ treed g n w
         unfolding treed
-        same₃ = e₃ ∙ ap₂ (λ (j : ℕ) (x : List ℕ). over (over x (5 * n) (column (treeWord g paths) j)) (16 * n) (forestTo g paths j)) p same₂
+        same₃ = rw (← limit-is, ← p, ← same₂) e₃
 
         pub grown₃ : Grown g k₁ w₃
         grown₃ = rw (p, same₃) after-build-trees

@@ -7,7 +7,7 @@ use Rattle.counting_tree.specs.Geometry.{Geometry}
 use Rattle.cells_grid.specs.Cells.{cells}
 use Rattle.cells_grid.specs.Arrangement.{coreBit}
 use Rattle.cells_grid.specs.Places.{populated}
-use Rattle.core_cells.specs.Forest.{paths, treeWord, forestTo}
+use Rattle.core_cells.specs.Forest.{pathLimit, treeWord, forestTo}
 use Rattle.clustering.specs.Clusters.{clusters, place, labelBy, kindOf}
 use Rattle.clustering.specs.Uniting.{lowestAt}
 use Rattle.clustering.specs.Numbering.{clusterWord}
@@ -18,7 +18,8 @@ module _ (g : Geometry) (n : ℕ) where
   unfoldable pub treed : List ℕ → List ℕ
   treed w =
       let k = length (cells g) in
-      over (over (over (populated g w) (4 * n) (column (coreBit g) n)) (5 * n) (column (treeWord g paths) k)) (16 * n) (forestTo g paths k)
+      let limit = pathLimit (g .levels) k in
+      over (over (over (populated g w) (4 * n) (column (coreBit g) n)) (5 * n) (column (treeWord g limit) k)) (16 * n) (forestTo g limit k)
 
   -- and what `label` writes
   unfoldable pub filled : List ℕ → List ℕ

@@ -48,7 +48,8 @@ fn fill_work(points: &[i16], v: ValidParams, n: usize, work: &mut [Word]) -> usi
 {
     let k = cells_grid::populate(points, v, n, work);
     cells_grid::label_points(points, v, n, k, work);
-    core_cells::build_trees(points, v, n, k, work, core_cells::PATHS);
+    let limit = core_cells::path_limit(v.s, k);
+    core_cells::build_trees(points, v, n, k, work, limit);
     clustering::label(points, v, n, k, work)
 }
 

@@ -12,8 +12,8 @@ use lib.Pow.{pow-mono, shl-exact}
 use lib.ListN.{getD}
 use Rattle.lists.specs.Lists.{In, any}
 use Rattle.lists.specs.Words.{part}
-use Rattle.lists.specs.ListLaws.{in-append}
-use Rattle.lists.specs.PartLaws.{part-below, part-snoc}
+use Rattle.lists.specs.ListLaws.{in-append, at-in}
+use Rattle.lists.specs.PartLaws.{part-length, part-at, part-below, part-snoc}
 use Rattle.counting_tree.specs.Sound.{four-power}
 use Rattle.core_cells.specs.Forest.{coreAmong}
 use Rattle.core_cells.specs.Nearest.{CanLook, beyond, leastUntil, outOfReach}
@@ -22,6 +22,13 @@ use Rattle.core_cells.specs.NearestLaws.{among-none, among-first, least-
 -- the frame at a place
 pub look-below : {w : List ℕ} {n from to : ℕ} → CanLook w n from to → {p x : ℕ} → p < to → x ≡ getD w (3 * n + p) 0 → x < n
 look-below {w} {n} can {p} h e = rw e (part-below n w (3 * n) n p (can .below) (omega (arith, can .room)) (omega (arith, can .places)))
+
+pub look-in : {w : List ℕ} {n from to : ℕ} → CanLook w n from to → {p x : ℕ} → from ≤ p → p < to → x ≡ getD w (3 * n + p) 0 → In x (part w (3 * n + from) (to - from))
+look-in {w} {n} {from} {to} can {p} {x} l h e =
+    let a : 3 * n + from + (p - from) ≡ 3 * n + p = omega arith in
+    let m = part-length w (3 * n + from) (to - from) (omega (arith, can .places, can .room, can .order)) in
+    subst (λ y. In y (part w (3 * n + from) (to - from))) (part-at w (3 * n + from) (to - from) (p - from) (omega arith) ∙ ap (λ (j : ℕ). getD w j 0) a ∙ sym e)
+    (at-in 0 (part w (3 * n + from) (to - from)) (p - from) (omega (arith, m)))
 
 -- whether it is core says what the core frames from its place on are
 look-first : {w : List ℕ} {n from to : ℕ} → CanLook w n from to → {p x : ℕ} → p < to → x ≡ getD w (3 * n + p) 0 → (b : Bool) → b ≡ eqb (getD w (4 * n + x) 0) 1
@@ -108,16 +115,17 @@ module _ {enough : ℕ} {f : ℕ → ℕ} {w : List ℕ} {n from to : ℕ} where
 -- ---- whether some core frame passes f: none at the places before p does
 pub record Seeking (f : ℕ → Bool) (w : List ℕ) (n from to p : ℕ) : Type 0 where
   pub can : CanLook w n from to
+  pub low : from ≤ p
   pub high : p ≤ to
   pub value : any f (coreAmong w n p to) ≡ any f (coreAmong w n from to)
 
 module _ {f : ℕ → Bool} {w : List ℕ} {n from to : ℕ} where
   pub seeking-start : CanLook w n from to → Seeking f w n from to from
-  seeking-start can = record { can = can; high = can .order; value = refl }
+  seeking-start can = record { can = can; low = omega arith; high = can .order; value = refl }
 
   module _ {p x : ℕ} (I : Seeking f w n from to p) (h : p < to) (e : x ≡ getD w (3 * n + p) 0) where
     pub seeking-miss : false ≡ eqb (getD w (4 * n + x) 0) 1 → Seeking f w n from to (p + 1)
-    seeking-miss q = record { can = I .can; high = omega arith; value = ap (any f) (sym (look-first (I .can) h e false q)) ∙ I .value }
+    seeking-miss q = record { can = I .can; low = omega (arith, I .low); high = omega arith; value = ap (any f) (sym (look-first (I .can) h e false q)) ∙ I .value }
 
     -- of a core frame
     module _ (q : true ≡ eqb (getD w (4 * n + x) 0) 1) where
@@ -128,7 +136,7 @@ module _ {f : ℕ → Bool} {w : List ℕ} {n from to : ℕ} where
       seeking-found t = with-first true t
 
       pub seeking-pass : false ≡ f x → Seeking f w n from to (p + 1)
-      seeking-pass t = record { can = I .can; high = omega arith; value = with-first false t }
+      seeking-pass t = record { can = I .can; low = omega (arith, I .low); high = omega arith; value = with-first false t }
 
   pub seeking-end : {p : ℕ} → Seeking f w n from to p → to ≤ p → false ≡ any f (coreAmong w n from to)
   seeking-end {p} I h =

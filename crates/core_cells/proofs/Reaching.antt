@@ -13,7 +13,7 @@ use lib.ListN.{length, getD, take}
 use lib.Ieee.{Float}
 use Rattle.lists.specs.Lists.{In, Below, any, nonzero}
 use Rattle.lists.specs.Words.{part}
-use Rattle.lists.specs.ListLaws.{true-T, T-true, both-ways, nonzero-eqb, any-in, any-none}
+use Rattle.lists.specs.ListLaws.{true-T, T-true, both-ways, nonzero-true, nonzero-eqb, any-in, any-none}
 use Rattle.hyperparams.specs.declared.ValidParams.{ValidParams}
 use Rattle.hyperparams.specs.Params.{float}
 use Rattle.counting_tree.specs.declared.Box.{Box}
@@ -22,11 +22,12 @@ use Rattle.counting_tree.specs.declared.IntersectionType.the-variants.{Disjoint
 use Rattle.counting_tree.specs.Frames.{Frame, framesIn, floats}
 use Rattle.counting_tree.specs.Grid.{sideAt, centres}
 use Rattle.counting_tree.specs.Box.{sumFrom}
-use Rattle.counting_tree.specs.Geometry.{Geometry, frame, N, FarReach}
+use Rattle.counting_tree.specs.Geometry.{Geometry, frame, N, boxAt, FarReach}
 use Rattle.counting_tree.specs.Paths as Paths
 use Rattle.counting_tree.specs.Paths.{onBox}
 use Rattle.counting_tree.specs.Domain.{Counts}
 use Rattle.counting_tree.specs.Ready.{geometryAt, Ready, at-frames, square-fits}
+use Rattle.counting_tree.specs.Indexes.{box-level}
 use Rattle.counting_tree.specs.Reach.{near-reaches, reaches-far}
 use Rattle.counting_tree.specs.Settled.{settledBy}
 use Rattle.counting_tree.specs.SettledLaws.{settled-disjoint, settled-covered}
@@ -36,7 +37,7 @@ use Rattle.cells_grid.specs.Ready.{ready-lawful}
 use Rattle.cells_grid.specs.CellLaws.{count-path}
 use Rattle.cells_grid.specs.Arrangement.{cellAt, Cored}
 use Rattle.cells_grid.specs.Places.{endIn}
-use Rattle.cells_grid.specs.ArrangementLaws.{arranged-below, words-count, cell-size, cell-end-le}
+use Rattle.cells_grid.specs.ArrangementLaws.{arranged-below, words-count, cell-size, cell-end-le, cell-places}
 use Rattle.tree_structure.specs.declared.Counted.{Counted}
 use Rattle.tree_structure.specs.Encode.{toldOf}
 use Rattle.core_cells.specs.Forest.{coreAmong, treeFrames, isCore, Grown}
@@ -44,7 +45,7 @@ use Rattle.core_cells.specs.ForestLaws.{frames-below, no-tree-node, is-c
 use Rattle.core_cells.specs.Nearest.{CanLook, beyond, leastUntil, outOfReach}
 use Rattle.core_cells.specs.NearestLaws.{among-place, least-found, least-le}
 use Rattle.core_cells.specs.RootBox.{rootBox, rootUnless}
-use Rattle.core_cells.specs.RootBoxLaws.{disjoint-count, covered-count, root-centre}
+use Rattle.core_cells.specs.RootBoxLaws.{one-root, disjoint-count, covered-count, root-centre}
 use Rattle.core_cells.specs.Settling.{settledByLeast, settledByFrames, settledByRoot, Tells}
 use Rattle.core_cells.proofs.Counting.{word-inside}
 use Rattle.core_cells.proofs.Rooted.{first-is, first-low}
@@ -62,8 +63,8 @@ pub not-first : {ps : List ℤ} {v : ValidParams} {n k : ℕ} {w : List ℕ} {q 
 unfolding rootUnless
 not-first p f = (p .0, p .1, p .2, p .3, rw f at (p .4))
 
--- what is asked with a root box, without it
-pub asked : {ps : List ℤ} {v : ValidParams} {n k : ℕ} {w : List ℕ} {q c : ℕ} {root : Box} → Ready ps v n × Grown (geometryAt v n ps) k w × (q < n) × (c < k) × (root ≡ rootBox v n ps c)
+-- what is asked with something more, without it
+pub asked : {ps : List ℤ} {v : ValidParams} {n k : ℕ} {w : List ℕ} {q c : ℕ} {More : Type 0} → Ready ps v n × Grown (geometryAt v n ps) k w × (q < n) × (c < k) × More
     → Ready ps v n × Grown (geometryAt v n ps) k w × (q < n) × (c < k)
 asked p = (p .0, p .1, p .2, p .3)
 
@@ -159,6 +160,26 @@ module _ {ps : List ℤ} {v : ValidParams} {n k : ℕ} {w : List ℕ} {q c : ℕ
         go Disjoint z = box-apart z
         go FullyCovered z = box-inside z eb f
         go Intersecting z = refl
+
+  -- ---- the test of its root box: `told` is what it says of the first frame x
+  module _ {x : ℕ} (ex : x ≡ getD w (n + c) 0) {side : Float} (es : side ≡ sideAt (v .channels) (v .tolerance) 0) {told : IntersectionType} (et : told ≡ boxAt v (framesIn n (v .channels) ps) side q x) where
+    tested : {t : IntersectionType} → told ≡ t → g .box q 0 (cellAt g c) ≡ t
+    tested z = sym (ap (g .box q 0) (first-is (p .0) (p .1) (p .3) ex)) ∙ sym (et ∙ box-level (p .0) 0 side es q x) ∙ z
+
+    pub test-tells : 0 < getD w (5 * n + c) 0 → Tells v n ps q c told
+    test-tells h = go told refl
+      where
+        core : T (isCore g c)
+        core = true-T (sym (is-core-cell (p .1) e c (p .3)) ∙ nonzero-true (getD w (5 * n + c) 0) (λ z. omega arith))
+
+        go : (t : IntersectionType) → told ≡ t → Tells v n ps q c t
+        go Disjoint z = sym (disjoint-count g L q (cellAt g c) (tested z))
+        go FullyCovered z = sym (covered-count g L q (cellAt g c) (tested z) core)
+        go Intersecting z = refl
+
+    pub test-open : told ≡ Intersecting → {from end : ℕ} → from ≡ getD w (2 * n + c) 0 → end ≡ endIn w n k c
+        → (y : ℕ) → In y (part w (3 * n + from) (end - from)) → geometryAt v n ps .box q 0 y ≡ Intersecting
+    test-open z ef ee y i = one-root g L q (cellAt g c) Intersecting (tested z) y (subst (In y) (cell-places g L (C .cells) n e c (p .3) ef ee) i)
 
   -- ---- its frames
   module _ {from end : ℕ} (ef : from ≡ getD w (2 * n + c) 0) (ee : end ≡ endIn w n k c) where

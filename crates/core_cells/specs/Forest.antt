@@ -1,10 +1,10 @@
 -- The trees of the core cells with more than a few core frames, in the lent work words: where each cell's tree begins, and the nodes of all trees
 -- in ascending cell number. Definitions only.
 use mathlib.Core.Path.{_≡_}
-use mathlib.Core.Bool.{Bool, cond}
+use mathlib.Core.Bool.{Bool, _||_, cond}
 use mathlib.Core.List.{List, [], _++_}
 use Prim.Native.Nat.{ℕ, zero, suc, _+_, _-_, _*_, _≤_}
-use lib.Dec.{eqb, ltb}
+use lib.Dec.{eqb, leb, ltb}
 use lib.ListN.{length, getD}
 use Rattle.lists.specs.Lists.{keep, Below}
 use Rattle.lists.specs.Words.{part, column}
@@ -27,9 +27,9 @@ pub record CanGather (w : List ℕ) (n from to at : ℕ) : Type 0 where
   pub room : at + n ≤ length w
   pub below : Below n (part w (3 * n + from) (to - from))
 
--- a run builds the trees of the cells with more core frames than this
-abbrev pub paths : ℕ
-paths = 1024
+-- a run of k cells builds the trees of those with more core frames than this: none where there is one level below the root, or one cell
+unfoldable pub pathLimit : (levels k : ℕ) → ℕ
+pathLimit levels k = cond (leb levels 1 || leb k 1) maxFrames 1024
 
 module _ (g : Geometry) where
   -- the core frames of the cell with number c, and whether there are any

@@ -22,9 +22,9 @@ use Rattle.counting_tree.specs.Paths.{reaches, path-disjoint, path-covered}
 use Rattle.counting_tree.specs.Arrays.{placed, boxOf}
 use Rattle.counting_tree.specs.Indexes.{placed-first, centres-length}
 use Rattle.counting_tree.specs.Ready.{geometryAt, Ready}
-use Rattle.cells_grid.specs.Cells.{coreMembers, coreCell, count}
+use Rattle.cells_grid.specs.Cells.{members, coreMembers, coreCell, count}
 use Rattle.cells_grid.specs.Lawful.{Lawful}
-use Rattle.cells_grid.specs.CellLaws.{in-core, core-cell-frame, count-path}
+use Rattle.cells_grid.specs.CellLaws.{in-member, in-core, core-cell-frame, count-path}
 use Rattle.cells_grid.specs.Arrangement.{cellAt}
 use Rattle.core_cells.specs.RootBox.{rootBox}
 
@@ -33,7 +33,10 @@ module _ (g : Geometry) (L : Lawful g) (q i : ℕ) where
   abbrev path : ℕ → Bool
   path = reaches (g .box q) (g .levels) 0
 
-  -- the core frames of the cell have the same root box
+  -- the frames of the cell have the same root box
+  pub one-root : (b : IntersectionType) → g .box q 0 i ≡ b → (x : ℕ) → In x (members g i) → g .box q 0 x ≡ b
+  one-root b e x j = sym (L .box-same q 0 i x (in-member g i x j .1)) ∙ e
+
   alike : (b : IntersectionType) → g .box q 0 i ≡ b → (x : ℕ) → In x (coreMembers g i) → g .box q 0 x ≡ b
   alike b e x j = sym (L .box-same q 0 i x (in-core g i x j .2)) ∙ e
 

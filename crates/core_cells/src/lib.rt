@@ -16,17 +16,18 @@ ghost use Prim.Native.Nat.{ℕ, _+_, _-_, _*_, _<_, _≤_};
 ghost use lib.ListN.{length, getD};
 ghost use Rattle.lists.specs.Lists.{In, any, nonzero};
 ghost use Rattle.lists.specs.Words.{over, part, column, Clear};
-ghost use Rattle.hyperparams.specs.Params.{maxPower, workWords};
+ghost use Rattle.hyperparams.specs.Params.{maxPower, levels, workWords};
 ghost use Rattle.counting_tree.specs.Frames.{framesIn};
 ghost use Rattle.counting_tree.specs.Geometry.{frame, N};
 ghost use Rattle.counting_tree.specs.Domain.{Counts};
 ghost use Rattle.counting_tree.specs.Paths as Paths;
 ghost use Rattle.counting_tree.specs.Ready.{geometryAt, Ready};
+ghost use Rattle.counting_tree.specs.declared.IntersectionType.the-variants.{Intersecting};
 ghost use Rattle.cells_grid.specs.Cells.{node, count};
 ghost use Rattle.cells_grid.specs.Arrangement.{cellAt, Cored};
 ghost use Rattle.cells_grid.specs.Places.{endIn};
 ghost use Rattle.tree_structure.specs.Encode.{toldOf};
-ghost use Rattle.core_cells.specs.Forest.{coreAmong, CanGather, treeSize, treeWords, nodesTo, forestTo, treeWord, Grown};
+ghost use Rattle.core_cells.specs.Forest.{coreAmong, CanGather, pathLimit, treeSize, treeWords, nodesTo, forestTo, treeWord, Grown};
 ghost use Rattle.core_cells.specs.Nearest.{CanLook, beyond, leastUntil, outOfReach};
 ghost use Rattle.core_cells.specs.RootBox.{rootBox, rootUnless};
 ghost use Rattle.core_cells.specs.Settling.{framesFirst, settledByFrames, settledByRoot, toldBy, Tells};
@@ -41,8 +42,11 @@ const SCRATCH: usize = 12;
 
 const NODES: usize = 16;
 
-// A cell with at most so many core frames has no tree: its frames' own paths are taken.
-pub const PATHS: usize = 1024;
+// A cell with at most so many core frames has no tree in a run: its frames' own paths are taken.
+const PATHS: usize = 1024;
+
+// As many as a run can have.
+const ALL: usize = 4096;
 
 // In a cell with at most so many frames these are asked before its root box, unless s is 0.
 const FEW: usize = 2;
@@ -111,6 +115,20 @@ fn build_tree(
     lists::clear_words(work, lo, m);
     work[slot] = (2 + (at - NODES * n) / 4) as Word;
     next
+}
+
+// With more core frames than this a cell has a tree in a run, of k cells. None has where s is 0, since root boxes settle nearly everything then,
+// nor where there is one cell, since nothing is asked of it.
+pub fn path_limit(s: usize, k: usize) -> usize
+    ensures { λ r. ⌜ r ≡ pathLimit (levels s) k ⌝ }
+{
+    if s == 0 {
+        return ALL;
+    }
+    if k <= 1 {
+        return ALL;
+    }
+    PATHS
 }
 
 // Writes the trees of the cells with more than `few` core frames, and where the tree of each cell begins.
@@ -223,9 +241,9 @@ fn out_of_reach(t: u64, s: usize, square: u64) -> bool
     reach * reach + four <= square * four
 }
 
-// Whether frame x reaches frame q by its own path: none that is out of reach does.
+// Whether frame x, whose root box is Intersecting, reaches frame q by its own path: none that is out of reach does.
 fn frame_reaches(points: &[i16], v: ValidParams, n: usize, q: usize, x: usize) -> bool
-    requires { ⌜ Ready (now points) v n × (q < n) × (x < n) ⌝ }
+    requires { ⌜ Ready (now points) v n × (q < n) × (x < n) × (geometryAt v n (now points) .box q 0 x ≡ Intersecting) ⌝ }
     ensures { λ r. ⌜ (let g = geometryAt v n (now (points .entry)) in r ≡ Paths.reaches (g .box q) (g .levels) 0 x) ⌝ }
 {
     let apart = counting_tree::points::square_apart(points, v, n, q, x);
@@ -235,7 +253,7 @@ fn frame_reaches(points: &[i16], v: ValidParams, n: usize, q: usize, x: usize) -
     counting_tree::paths::reaches(points, v, n, q, x)
 }
 
-// Whether a core frame at the places from `from` up to `to` reaches frame q by its own path.
+// Whether a core frame at the places from `from` up to `to` reaches frame q by its own path; the root boxes of all frames there are Intersecting.
 fn some_reaches(
     points: &[i16],
     v: ValidParams,
@@ -246,6 +264,7 @@ fn some_reaches(
     to: usize,
 ) -> bool
     requires { ⌜ Ready (now points) v n × (q < n) × CanLook (now work) n from to ⌝ }
+    requires { ⌜ ((x : ℕ) → In x (part (now work) (3 * n + from) (to - from)) → geometryAt v n (now points) .box q 0 x ≡ Intersecting) ⌝ }
     ensures { λ r. ⌜ (let g = geometryAt v n (now (points .entry)) in r ≡ any (Paths.reaches (g .box q) (g .levels) 0) (coreAmong (now (work .entry)) n from to)) ⌝ }
 {
     let mut p = from;
@@ -371,8 +390,32 @@ fn settled_by_frames(
     IntersectionType::Intersecting
 }
 
-// Whether frame q has a non-zero count in the tree of cell c, by the frames' own paths, or by the tree where it is built.
+// Whether frame q has a non-zero count in the tree of core cell c, by the paths of its frames. They share the root box, which is tested once.
 fn reaches_by_paths(
+    points: &[i16],
+    v: ValidParams,
+    n: usize,
+    k: usize,
+    work: &[Word],
+    q: usize,
+    c: usize,
+) -> bool
+    requires { ⌜ Ready (now points) v n × Grown (geometryAt v n (now points)) k (now work) × (q < n) × (c < k) × (0 < getD (now work) (5 * n + c) 0) ⌝ }
+    ensures { λ r. ⌜ r ≡ nonzero (count (geometryAt v n (now (points .entry))) q (cellAt (geometryAt v n (now (points .entry))) c)) ⌝ }
+{
+    let side = counting_tree::grid::base_side(v.tolerance, v.channels);
+    let first = lists::word(work, n + c);
+    let told = counting_tree::points::classify(points, v, n, q, side, first);
+    if let IntersectionType::Intersecting = told {
+        let from = lists::word(work, STARTS * n + c);
+        let end = cells_grid::cell_end(work, n, k, c);
+        return some_reaches(points, v, n, work, q, from, end);
+    }
+    is_covered(told)
+}
+
+// Whether frame q has a non-zero count in the tree of cell c, by the paths of its frames, or by the tree where it is built.
+fn is_counted(
     points: &[i16],
     v: ValidParams,
     n: usize,
@@ -384,10 +427,12 @@ fn reaches_by_paths(
     requires { ⌜ Ready (now points) v n × Grown (geometryAt v n (now points)) k (now work) × (q < n) × (c < k) ⌝ }
     ensures { λ r. ⌜ r ≡ nonzero (count (geometryAt v n (now (points .entry))) q (cellAt (geometryAt v n (now (points .entry))) c)) ⌝ }
 {
-    if lists::word(work, TREES * n + c) <= 1 {
-        let from = lists::word(work, STARTS * n + c);
-        let end = cells_grid::cell_end(work, n, k, c);
-        return some_reaches(points, v, n, work, q, from, end);
+    let tree = lists::word(work, TREES * n + c);
+    if tree == 0 {
+        return false;
+    }
+    if tree == 1 {
+        return reaches_by_paths(points, v, n, k, work, q, c);
     }
     tree_count(points, v, n, k, work, q, c).count != 0
 }
@@ -414,7 +459,7 @@ fn told_by(
     settled_by_root(points, v, n, k, work, q, c, root)
 }
 
-// The same as `reaches_by_paths`, by what the frames of the cell, or else its root box, settle first.
+// The same as `is_counted`, by what the frames of the cell, or else its root box, settle first.
 fn reaches_second(
     frames: bool,
     points: &[i16],
@@ -431,7 +476,7 @@ fn reaches_second(
     let root = root_unless(frames, points, v, n, k, work, c);
     let told = told_by(frames, points, v, n, k, work, q, c, root);
     if let IntersectionType::Intersecting = told {
-        return reaches_by_paths(points, v, n, k, work, q, c);
+        return is_counted(points, v, n, k, work, q, c);
     }
     is_covered(told)
 }

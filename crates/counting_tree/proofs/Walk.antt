@@ -41,13 +41,20 @@ pub record Walking (ps : List ℤ) (v : ValidParams) (n q x : ℕ) (y : Float) (
   pub path : reaches (geometryAt v n ps .box q) left level x ≡ reaches (geometryAt v n ps .box q) (geometryAt v n ps .levels) 0 x
 
 module _ {ps : List ℤ} {v : ValidParams} {n q x : ℕ} where
-  pub walk-start : {y : Float} → y ≡ sideAt (v .channels) (v .tolerance) 0 → Walking ps v n q x y (1 + v .s)
-  walk-start e = record {
-    level = 0;
+  -- it begins below the root, whose box is Intersecting
+  pub walk-start : {y z : Float} → geometryAt v n ps .box q 0 x ≡ Intersecting → y ≡ sideAt (v .channels) (v .tolerance) 0 → z ≡ half y → Walking ps v n q x z (v .s)
+  walk-start {y} i e f = record {
+    level = 1;
     depth = omega arith;
-    side = e;
-    path = ap (λ (k : ℕ). reaches (geometryAt v n ps .box q) k 0 x) (sym (at-levels v n ps));
+    side = next-side _ _ 0 y _ e f;
+    path =
+        ap (λ (k : ℕ). reaches (geometryAt v n ps .box q) k 1 x) (less (v .s))
+        ∙ on-inner (geometryAt v n ps .box q) x (1 + v .s) 0 (omega arith) i
+        ∙ ap (λ (k : ℕ). reaches (geometryAt v n ps .box q) k 0 x) (sym (at-levels v n ps));
   }
+    where
+      less : (s : ℕ) → s ≡ 1 + s - 1
+      less s = omega arith
 
   module _ (r : Ready ps v n) {y : Float} {left : ℕ} (W : Walking ps v n q x y left) where
     pub walk-side : Side y

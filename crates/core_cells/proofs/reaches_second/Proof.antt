@@ -13,8 +13,8 @@ told-by-requires c κs = search needs
 enum-told : tie.Need-enum-told
 enum-told c = search needs
 
-reaches-by-paths-requires : tie.Need-reaches-by-paths-requires
-reaches-by-paths-requires c κs = search needs
+is-counted-requires : tie.Need-is-counted-requires
+is-counted-requires c κs = search needs
 
 returns : tie.Need-returns
 returns c = search needs
@@ -32,7 +32,7 @@ reaches-second-spec =
     root-unless-requires
     told-by-requires
     enum-told
-    reaches-by-paths-requires
+    is-counted-requires
     returns
     is-covered-requires
     returns-2)

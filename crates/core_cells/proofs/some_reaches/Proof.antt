@@ -4,7 +4,7 @@ use Prim.Native.Nat.{_-_}
 use native.Mathlib.Omega.{arith}
 use Rattle.counting_tree.specs.Paths as Paths
 use Rattle.counting_tree.specs.Ready.{geometryAt}
-use Rattle.core_cells.proofs.Looking.{look-below, Seeking, seeking-start, seeking-miss, seeking-found, seeking-pass, seeking-end}
+use Rattle.core_cells.proofs.Looking.{look-below, look-in, Seeking, seeking-start, seeking-miss, seeking-found, seeking-pass, seeking-end}
 use Rattle.core_cells.proofs.some_reaches.Statement.{statement}
 use Rattle.core_cells.proofs.some_reaches.Tie as tie
 
@@ -15,16 +15,16 @@ abbrev μ-loop : tie.MeasureT-loop
 μ-loop points v n work q from to p₀ p = to - p
 
 loop-holds : tie.Need-loop-holds Inv-loop μ-loop
-loop-holds c = seeking-start (c .before .pre .2)
+loop-holds c = seeking-start (c .before .pre .0 .2)
 
 add-next : tie.Need-add-next Inv-loop μ-loop
-add-next c = omega (arith, c .before .before .before .pre .0 .few, c .before .loop .inv .can .places)
+add-next c = omega (arith, c .before .before .before .pre .0 .0 .few, c .before .loop .inv .can .places)
 
 mul-word : tie.Need-mul-word Inv-loop μ-loop
-mul-word c = omega (arith, c .before .before .before .pre .0 .few, c .before .loop .inv .can .places)
+mul-word c = omega (arith, c .before .before .before .pre .0 .0 .few, c .before .loop .inv .can .places)
 
 add-word : tie.Need-add-word Inv-loop μ-loop
-add-word c = omega (arith, c .before .before .before .pre .0 .few, c .before .loop .inv .can .places)
+add-word c = omega (arith, c .before .before .before .pre .0 .0 .few, c .before .loop .inv .can .places)
 
 word-requires : tie.Need-word-requires Inv-loop μ-loop
 word-requires c κs = omega (arith, c .before .loop .inv .can .places, c .before .loop .inv .can .room)
@@ -33,7 +33,7 @@ is-core-requires : tie.Need-is-core-requires Inv-loop μ-loop
 is-core-requires c κs = (look-below (c .before .before .loop .inv .can) (c .before .loop-test .taken) (c .word .ensures), c .before .before .loop .inv .can .room)
 
 frame-reaches-requires : tie.Need-frame-reaches-requires Inv-loop μ-loop
-frame-reaches-requires c κs = (c .before .before .before .before .before .before .pre .0, c .before .before .before .before .before .before .pre .1, look-below (c .before .before .before .before .loop .inv .can) (c .before .before .before .loop-test .taken) (c .before .before .word .ensures))
+frame-reaches-requires c κs = (c .before .before .before .before .before .before .pre .0 .0, c .before .before .before .before .before .before .pre .0 .1, look-below (c .before .before .before .before .loop .inv .can) (c .before .before .before .loop-test .taken) (c .before .before .word .ensures), c .before .before .before .before .before .before .pre .1 _ (look-in (c .before .before .before .before .loop .inv .can) (c .before .before .before .before .loop .inv .low) (c .before .before .before .loop-test .taken) (c .before .before .word .ensures)))
 
 returns : tie.Need-returns Inv-loop μ-loop
 returns c = seeking-found (c .before .before .before .before .before .before .loop .inv) (c .before .before .before .before .before .loop-test .taken) (c .before .before .before .before .word .ensures) (sym (c .before .before .if1 .taken) ∙ c .before .before .before .is-core .ensures) (sym (c .if2 .taken) ∙ c .before .frame-reaches .ensures)

@@ -15,11 +15,11 @@ abbrev μ-loop : tie.MeasureT-loop
 base-side-requires : tie.Need-base-side-requires Inv-loop μ-loop
 base-side-requires c κs = some-channels (c .pre .0)
 
-add-left : tie.Need-add-left Inv-loop μ-loop
-add-left c = search needs
+half-side-requires : tie.Need-half-side-requires Inv-loop μ-loop
+half-side-requires c κs = search needs
 
 loop-holds : tie.Need-loop-holds Inv-loop μ-loop
-loop-holds c = walk-start (c .before .base-side .ensures)
+loop-holds c = walk-start (c .before .before .pre .3) (c .before .base-side .ensures) (c .half-side .ensures)
 
 classify-requires : tie.Need-classify-requires Inv-loop μ-loop
 classify-requires c κs = (c .before .before .before .before .pre .0, walk-side (c .before .before .before .before .pre .0) (c .before .loop .inv), c .before .before .before .before .pre .1, c .before .before .before .before .pre .2)
@@ -39,8 +39,8 @@ returns-2 c = walk-covered (c .before .before .before .before .before .before .b
 enum-told-3 : tie.Need-enum-told-3 Inv-loop μ-loop
 enum-told-3 c = search needs
 
-half-side-requires : tie.Need-half-side-requires Inv-loop μ-loop
-half-side-requires c κs = search needs
+half-side-requires-2 : tie.Need-half-side-requires-2 Inv-loop μ-loop
+half-side-requires-2 c κs = search needs
 
 sub-left : tie.Need-sub-left Inv-loop μ-loop
 sub-left c = omega arith
@@ -49,7 +49,7 @@ loop-less : tie.Need-loop-less Inv-loop μ-loop
 loop-less c = omega arith
 
 loop-again : tie.Need-loop-again Inv-loop μ-loop
-loop-again c = walk-on (c .before .before .before .before .before .before .before .before .pre .0) (c .before .before .before .before .before .loop .inv) (c .before .before .before .classify .ensures) (c .before .enum-told3 .given .1) (c .before .before .before .before .loop-test .taken) (c .half-side .ensures)
+loop-again c = walk-on (c .before .before .before .before .before .before .before .before .pre .0) (c .before .before .before .before .before .loop .inv) (c .before .before .before .classify .ensures) (c .before .enum-told3 .given .1) (c .before .before .before .before .loop-test .taken) (c .half-side2 .ensures)
 
 classify-requires-2 : tie.Need-classify-requires-2 Inv-loop μ-loop
 classify-requires-2 c κs = (c .before .before .before .before .pre .0, walk-side (c .before .before .before .before .pre .0) (c .before .loop .inv), c .before .before .before .before .pre .1, c .before .before .before .before .pre .2)
@@ -79,7 +79,7 @@ reaches-spec =
     Inv-loop
     μ-loop
     base-side-requires
-    add-left
+    half-side-requires
     loop-holds
     classify-requires
     enum-told
@@ -87,7 +87,7 @@ reaches-spec =
     enum-told-2
     returns-2
     enum-told-3
-    half-side-requires
+    half-side-requires-2
     sub-left
     loop-less
     loop-again
