@@ -9,6 +9,8 @@ use original::library::{self, work_words};
 use original::random::{count, Random};
 use original::{rows, settings, Search};
 
+mod hard;
+
 #[repr(C)]
 struct Timespec {
     seconds: i64,
@@ -158,7 +160,11 @@ fn measure(c: &Set, quick: bool) -> Times {
         None,
     );
     let theirs: Vec<u16> = answer.labels.iter().map(|l| l.map_or(65535, |l| l as u16)).collect();
-    assert!(theirs == lent.labels && answer.kinds == lent.kinds, "{}: the answers differ", c.name);
+    assert!(
+        theirs == lent.labels && answer.kinds == lent.kinds,
+        "{}: the answers differ",
+        c.name
+    );
     Times { scan, tree, ours }
 }
 
@@ -189,6 +195,34 @@ fn growth(name: &str, times: impl Fn(usize) -> Times) {
         times[3].original() / times[0].original(),
         times[3].ours / times[0].ours
     );
+}
+
+/// A table of the hard sets: they are not among the rows that the last line counts.
+fn hard_sets(seed: u64, quick: bool) {
+    println!("4,096 frames of hard sets, s 0, 3 and 10: original (faster search) / this library, and this library over the original\n\n| set | s 0 | | s 3 | | s 10 | |\n|---|---|---|---|---|---|---|");
+    for kind in hard::KINDS {
+        let points = (kind.make)(&mut Random::new(seed), 4096);
+        let each: Vec<String> = [0, 3, 10]
+            .iter()
+            .map(|s| {
+                let times = measure(
+                    &Set {
+                        name: kind.name,
+                        channels: kind.channels,
+                        frames: 4096,
+                        t: kind.t,
+                        min_points: kind.min_points,
+                        s: *s,
+                        points: points.clone(),
+                    },
+                    quick,
+                );
+                format!("{:.2} / {:.2} | {:.2}", times.original(), times.ours, 1.0 / times.ratio())
+            })
+            .collect();
+        println!("| {} | {} |", kind.name, each.join(" | "));
+    }
+    println!();
 }
 
 fn main() {
@@ -248,6 +282,7 @@ fn main() {
         }
         println!();
     }
+    hard_sets(seed, quick);
     let set = |(name, kind, t, min_points): (&'static str, &str, f64, usize), frames: usize, seed: u64| Set {
         name,
         channels: 4,
@@ -258,12 +293,18 @@ fn main() {
         points: make(&mut Random::new(seed), kind, 4, frames, NOISE),
     };
     let head = "| set | 512 | 1,024 | 2,048 | 4,096 | original grows | this library grows |\n|---|---|---|---|---|---|---|";
-    println!("Growth, 4 channels, s 3: original (faster search) / this library, and the time at 4,096 frames over that at 512\n\n{}", head);
+    println!(
+        "Growth, 4 channels, s 3: original (faster search) / this library, and the time at 4,096 frames over that at 512\n\n{}",
+        head
+    );
     for shape in shapes {
         growth(shape.0, |n| measure(&set(shape, n, seed), quick));
     }
     let runs = if quick { 5 } else { 41 };
-    println!("\nThe same with another set of the kind at each run, the middle of {} runs\n\n{}", runs, head);
+    println!(
+        "\nThe same with another set of the kind at each run, the middle of {} runs\n\n{}",
+        runs, head
+    );
     for shape in shapes {
         growth(shape.0, |n| {
             let sets: Vec<Set> = (0..runs).map(|k| set(shape, n, seed + k)).collect();
@@ -274,7 +315,11 @@ fn main() {
     // lies along a curve, from which it then strays as much farther.
     let scaled = |(name, kind, t, min_points): (&'static str, &str, f64, usize), frames: usize, seed: u64| {
         let fewer = 4096.0 / frames as f64;
-        let (wider, noise) = if kind == "uniform" { (fewer.powf(0.25), NOISE) } else { (fewer, NOISE * fewer) };
+        let (wider, noise) = if kind == "uniform" {
+            (fewer.powf(0.25), NOISE)
+        } else {
+            (fewer, NOISE * fewer)
+        };
         Set {
             name,
             channels: 4,
