@@ -11,18 +11,15 @@ use borrow.Author.Needs.{needs}
 use Rattle.counting_tree.proofs.points.near_box.Statement.{statement}
 use Rattle.counting_tree.proofs.points.near_box.Tie as tie
 
--- @START = c .before
 mul-start : tie.Need-mul-start
 mul-start c = let s = c .before in first-place (s .pre .0) (s .args .j) (s .pre .1) .fits
 
 half-side-requires : tie.Need-half-side-requires
 half-side-requires c κs = search needs
 
--- @START = c .before .before .before
 mul-off : tie.Need-mul-off
 mul-off c = let s = c .before .before .before in first-place (s .pre .0) (s .args .j) (s .pre .1) .bytes
 
--- @START = c .before .before .before
 shared-slice-copy-out-off : tie.Need-shared-slice-copy-out-off
 shared-slice-copy-out-off c = let s = c .before .before .before in first-place (s .pre .0) (s .args .j) (s .pre .1) .inside
 
@@ -32,7 +29,6 @@ array-read-off c = search needs
 off-requires : tie.Need-off-requires
 off-requires c κs = search needs
 
--- @START = c .before .before .before .before .before .before .before
 returns : tie.Need-returns
 unfolding ofBits ofInt reach
 returns c =
@@ -43,15 +39,12 @@ returns c =
     let one = offs-first (s .pre .0) (s .args .j) (s .pre .1) most centre long _ refl (c .before .before .before .off-arg .given) (c .before .before .off .result) (c .before .before .off .ensures .0) in
     offs-all (s .pre .0) (s .args .j) (s .pre .1) most centre long one (omega (arith, c .if1 .taken)) (reach (s .args .place .side)) (ap (λ (x : Float). add binary64 x (float 1)) (c .before .before .before .before .before .half-side .ensures))
 
--- @START = c .before .before .before .before .before .before .before
 add-off : tie.Need-add-off
 add-off c = let s = c .before .before .before .before .before .before .before in place (s .pre .0) (s .args .j) 1 _ (s .pre .1) (c .if1 .left) refl .fits
 
--- @START = c .before .before .before .before .before .before .before
 mul-off-2 : tie.Need-mul-off-2
 mul-off-2 c = let s = c .before .before .before .before .before .before .before in place (s .pre .0) (s .args .j) 1 _ (s .pre .1) (c .if1 .left) refl .bytes
 
--- @START = c .before .before .before .before .before .before .before
 shared-slice-copy-out-off-2 : tie.Need-shared-slice-copy-out-off-2
 shared-slice-copy-out-off-2 c = let s = c .before .before .before .before .before .before .before in place (s .pre .0) (s .args .j) 1 _ (s .pre .1) (c .if1 .left) refl .inside
 
@@ -64,7 +57,6 @@ off-requires-2 c κs = search needs
 add-two : tie.Need-add-two
 add-two c = search needs
 
--- @START = c .before .before .before .before .before .before .before .before .before .before .before
 returns-2 : tie.Need-returns-2
 unfolding ofBits ofInt reach
 returns-2 c =
@@ -76,15 +68,12 @@ returns-2 c =
     let two = offs-more (s .pre .0) (s .args .j) (s .pre .1) most centre long 1 _ (c .before .before .before .before .if1 .left) refl (c .before .before .before .off-arg2 .given) (c .before .before .off2 .result) (c .before .before .off2 .ensures .0) one in
     offs-all (s .pre .0) (s .args .j) (s .pre .1) most centre long two (omega (arith, c .if2 .taken)) (reach (s .args .place .side)) (ap (λ (x : Float). add binary64 x (float 1)) (c .before .before .before .before .before .before .before .before .before .half-side .ensures))
 
--- @START = c .before .before .before .before .before .before .before .before .before .before .before
 add-off-2 : tie.Need-add-off-2
 add-off-2 c = let s = c .before .before .before .before .before .before .before .before .before .before .before in place (s .pre .0) (s .args .j) 2 _ (s .pre .1) (c .if2 .left) refl .fits
 
--- @START = c .before .before .before .before .before .before .before .before .before .before .before
 mul-off-3 : tie.Need-mul-off-3
 mul-off-3 c = let s = c .before .before .before .before .before .before .before .before .before .before .before in place (s .pre .0) (s .args .j) 2 _ (s .pre .1) (c .if2 .left) refl .bytes
 
--- @START = c .before .before .before .before .before .before .before .before .before .before .before
 shared-slice-copy-out-off-3 : tie.Need-shared-slice-copy-out-off-3
 shared-slice-copy-out-off-3 c = let s = c .before .before .before .before .before .before .before .before .before .before .before in place (s .pre .0) (s .args .j) 2 _ (s .pre .1) (c .if2 .left) refl .inside
 
@@ -97,7 +86,6 @@ off-requires-3 c κs = search needs
 add-three : tie.Need-add-three
 add-three c = search needs
 
--- @START = c .before .before .before .before .before .before .before .before .before .before .before .before .before .before .before
 returns-3 : tie.Need-returns-3
 unfolding ofBits ofInt reach
 returns-3 c =
@@ -110,15 +98,12 @@ returns-3 c =
     let three = offs-more (s .pre .0) (s .args .j) (s .pre .1) most centre long 2 _ (c .before .before .before .before .if2 .left) refl (c .before .before .before .off-arg3 .given) (c .before .before .off3 .result) (c .before .before .off3 .ensures .0) two in
     offs-all (s .pre .0) (s .args .j) (s .pre .1) most centre long three (omega (arith, c .if3 .taken)) (reach (s .args .place .side)) (ap (λ (x : Float). add binary64 x (float 1)) (c .before .before .before .before .before .before .before .before .before .before .before .before .before .half-side .ensures))
 
--- @START = c .before .before .before .before .before .before .before .before .before .before .before .before .before .before .before
 add-off-3 : tie.Need-add-off-3
 add-off-3 c = let s = c .before .before .before .before .before .before .before .before .before .before .before .before .before .before .before in place (s .pre .0) (s .args .j) 3 _ (s .pre .1) (c .if3 .left) refl .fits
 
--- @START = c .before .before .before .before .before .before .before .before .before .before .before .before .before .before .before
 mul-off-4 : tie.Need-mul-off-4
 mul-off-4 c = let s = c .before .before .before .before .before .before .before .before .before .before .before .before .before .before .before in place (s .pre .0) (s .args .j) 3 _ (s .pre .1) (c .if3 .left) refl .bytes
 
--- @START = c .before .before .before .before .before .before .before .before .before .before .before .before .before .before .before
 shared-slice-copy-out-off-4 : tie.Need-shared-slice-copy-out-off-4
 shared-slice-copy-out-off-4 c = let s = c .before .before .before .before .before .before .before .before .before .before .before .before .before .before .before in place (s .pre .0) (s .args .j) 3 _ (s .pre .1) (c .if3 .left) refl .inside
 
@@ -131,7 +116,6 @@ off-requires-4 c κs = search needs
 add-result : tie.Need-add-result
 add-result c = search needs
 
--- @START = c .before .before .before .before .before .before .before .before .before .before .before .before .before .before .before .before .before
 returns-4 : tie.Need-returns-4
 unfolding ofBits ofInt reach
 returns-4 c =

@@ -12,15 +12,12 @@ use Rattle.counting_tree.proofs.points.off.Tie as tie
 int-to-float-d : tie.Need-int-to-float-d
 int-to-float-d c = search needs
 
--- @START = c .before .before
 returns : tie.Need-returns
 returns c = let s = c .before .before in (off-is (s .args .reach) (s .args .centre) _ (s .args .x) (ap (ofInt binary64) (toZ-ofZ (s .fits .x))) true _ (c .if1 .taken) refl, omega arith)
 
--- @START = c .before .before .before
 returns-2 : tie.Need-returns-2
 returns-2 c = let s = c .before .before .before in (off-is (s .args .reach) (s .args .centre) _ (s .args .x) (ap (ofInt binary64) (toZ-ofZ (s .fits .x))) false true (c .before .if1 .left) (c .if2 .taken), omega arith)
 
--- @START = c .before .before .before
 returns-3 : tie.Need-returns-3
 returns-3 c = let s = c .before .before .before in (off-is (s .args .reach) (s .args .centre) _ (s .args .x) (ap (ofInt binary64) (toZ-ofZ (s .fits .x))) false false (c .before .if1 .left) (c .if2 .left), omega arith)
 

@@ -16,7 +16,6 @@ use Rattle.counting_tree.proofs.points.shares_box.Tie as tie
 near-box-requires : tie.Need-near-box-requires
 near-box-requires c κs = search needs
 
--- @START = c .before .before
 returns : tie.Need-returns
 returns c =
     let s = c .before .before in
