@@ -1,7 +1,7 @@
--- Whether a lent frame lies near a box, one channel more of it; and its counts, which are read on the way.
+-- Whether a lent frame lies near a box, one channel more of it, and its counts, which are read on the way; what it says of the frame's indexes.
 use mathlib.Core.Path.{_≡_, refl, sym, ap, ap₂, subst, _∙_}
 use mathlib.Core.Bool.{Bool, true, false, not, _&&_, cond, and-true, and-false, and-assoc}
-use mathlib.Core.List.{List}
+use mathlib.Core.List.{List, map}
 use Prim.Native.Nat.{ℕ, suc, _+_, _*_, _≤_, _<_}
 use native.Mathlib.Nat.{zero-add, add-zero}
 use native.Mathlib.Numerals.{add-one}
@@ -14,13 +14,17 @@ use lib.Seq.{drop-cons, getD-take, length-take-le}
 use lib.Ieee.{Float, nan, binary64, sub, neg, lt, ofInt}
 use mir.Syntax.{w16}
 use mir.Val.{toZ, ofZ}
+use Rattle.lists.specs.ListLaws.{not-turn}
 use Rattle.hyperparams.specs.declared.ValidParams.{ValidParams}
 use Rattle.counting_tree.specs.Frames.{Frame, framesIn}
 use Rattle.counting_tree.specs.FramesIn.{frame-at, frame-length}
-use Rattle.counting_tree.specs.Geometry.{frame}
+use Rattle.counting_tree.specs.Grid.{centre, indexes}
+use Rattle.counting_tree.specs.Geometry.{frame, sameInts}
+use Rattle.counting_tree.specs.Radius.{Side}
 use Rattle.counting_tree.specs.Domain.{Count, Counts}
 use Rattle.counting_tree.specs.Ready.{Ready}
-use Rattle.counting_tree.specs.NearBox.{closeTo, nearBox}
+use Rattle.counting_tree.specs.NearBox.{reach, closeTo, nearBox}
+use Rattle.counting_tree.specs.NearBoxLaws.{not-near}
 use Rattle.counting_tree.proofs.Counts.{read, count-here}
 use Rattle.counting_tree.proofs.Squares.{one-more}
 
@@ -99,3 +103,7 @@ module _ {ps : List ℤ} {v : ValidParams} {n : ℕ} (r : Ready ps v n) (j : ℕ
         sym (ap (λ (z : List Float). eqb sum 0 && nearBox most z (drop k xs)) (drop-of-length-le cs a) ∙ and-true (eqb sum 0)) ∙ s .value ∙ ap (λ (w : Float). nearBox w cs xs) e,
         λ i t. s .counts i (omega arith),
       )
+
+-- a frame that is not near the box of the indexes `at` has others
+pub other-box : (side : Float) → Side side → (at : List ℤ) (cs : List Float) (xs : Frame) → cs ≡ map (centre side) at → Counts xs → (t : Bool) → t ≡ nearBox (reach side) cs xs → not t ≡ true → false ≡ sameInts at (indexes side xs)
+other-box side s at cs xs e c t f g = sym (not-near side s at xs c (ap (λ (l : List Float). nearBox (reach side) l xs) (sym e) ∙ sym f ∙ not-turn t true g))

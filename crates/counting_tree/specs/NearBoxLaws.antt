@@ -1,17 +1,16 @@
 -- A frame lies near the box of its indexes, at any side: one that does not has other indexes.
-use mathlib.Core.Path.{_≡_, refl, sym, ap, ap₂, _∙_, subst}
-use mathlib.Core.Bool.{Bool, true, false, not, _&&_, true≢false}
+use mathlib.Core.Path.{_≡_, sym, ap, ap₂, _∙_, subst}
+use mathlib.Core.Bool.{Bool, true, false, not, _&&_}
 use mathlib.Core.List.{List, [], _∷_, map}
-use Prim.Native.Nat.{ℕ, suc, _+_, _*_, _^_, _≤_, _<_, zero-le, suc-le-suc}
+use Prim.Native.Nat.{ℕ, suc, _+_, _*_, _^_, _≤_, zero-le, suc-le-suc}
 use native.Mathlib.Nat.{le-trans, mul-le-mul-right}
 use native.Mathlib.Omega.{arith}
 use borrow.Author.Tests.{le-ltb}
 use lib.IntN.{ℤ, natAbs}
 use lib.Dec.{T, lit≤}
-use lib.ListN.{length}
 use lib.Ieee.{Float, binary64, sub, neg, lt, ofInt}
 use Rattle.lists.specs.ListLaws.{T-false, and-both}
-use Rattle.ieee754.specs.Value.{unit, unit-pos, tiny, unit-tiny, tiny-large, mag, sign, Good}
+use Rattle.ieee754.specs.Value.{unit, tiny, unit-tiny, tiny-large, mag, sign, Good}
 use Rattle.ieee754.specs.Ops.{plus, minus, plus-pos, minus-pos, mag-parts, neg-good, neg-parts}
 use Rattle.ieee754.specs.Compare.{lt-is}
 use Rattle.ieee754.specs.Exact.{ofInt-pos}
@@ -23,7 +22,7 @@ use Rattle.counting_tree.specs.Geometry.{sameInts}
 use Rattle.counting_tree.specs.Distance.{gap, sub-gap, sum-close}
 use Rattle.counting_tree.specs.Radius.{Side}
 use Rattle.counting_tree.specs.InBox.{coordinate-is, side-half, half-side, index-box}
-use Rattle.counting_tree.specs.Domain.{Count, Counts}
+use Rattle.counting_tree.specs.Domain.{Counts}
 use Rattle.counting_tree.specs.Sound.{count-small, same-ints}
 use Rattle.counting_tree.specs.NearBox.{reach, closeTo, nearBox}
 
@@ -90,6 +89,7 @@ module _ (side : Float) (s : Side side) where
       most : (m g h t : ℕ) → m * 1 ≤ g + t → g ≤ h + 6 * t → m ≤ h + 7 * t
       most m g h t a b = omega arith
 
+  -- a frame lies near the box of its indexes
   frame-near : (xs : Frame) → Counts xs → T (nearBox (reach side) (centres side xs) xs)
   unfolding nearBox centres indexes
   frame-near [] c = tt

@@ -196,7 +196,7 @@ fn off(x: i16, centre: f64, reach: f64) -> u64
     0
 }
 
-// Whether frame j lies at most half a side and 1 from the centre of `place` in each channel; its counts are then known to be signed 16-bit numbers. The channels are summed and tested once: which of them is the first to lie off is not foreseeable, and a branch on it would be slow.
+// Whether frame j lies at most half a side and 1 from the centre of `place` in each channel; its counts are then known to be signed 16-bit numbers. The sum is tested once: a branch for each channel could not be predicted.
 fn near_box(points: &[i16], v: ValidParams, n: usize, place: Box, j: usize) -> bool
     requires { ⌜ Ready (now points) v n × (j < n) ⌝ }
     ensures value { λ r. ⌜ r ≡ nearBox (reach (place .side)) (take (v .channels) (place .centre)) (frame v (framesIn n (v .channels) (now (points .entry))) j) ⌝ }

@@ -1,14 +1,8 @@
 -- A frame that is not near the box has other indexes.
-use mathlib.Core.Path.{sym, ap, _∙_}
-use mathlib.Core.Bool.{true}
-use mathlib.Core.List.{List}
 use lib.ListN.{take}
-use lib.Ieee.{Float}
-use Rattle.lists.specs.ListLaws.{not-turn}
 use Rattle.counting_tree.specs.Frames.{framesIn}
 use Rattle.counting_tree.specs.Geometry.{frame}
-use Rattle.counting_tree.specs.NearBox.{reach, nearBox}
-use Rattle.counting_tree.specs.NearBoxLaws.{not-near}
+use Rattle.counting_tree.proofs.Near.{other-box}
 use borrow.Author.Needs.{needs}
 use Rattle.counting_tree.proofs.points.shares_box.Statement.{statement}
 use Rattle.counting_tree.proofs.points.shares_box.Tie as tie
@@ -20,9 +14,7 @@ returns : tie.Need-returns
 returns c =
     let s = c .before .before in
     let a = s .args in
-    let xs = frame (a .v) (framesIn (a .n) (a .v .channels) (a .points .now)) (a .j) in
-    sym (not-near (a .place .side) (s .pre .0 .2) (take (a .v .channels) (a .at)) xs (c .before .near-box .ensures .1)
-    (ap (λ (l : List Float). nearBox (reach (a .place .side)) l xs) (sym (s .pre .1)) ∙ sym (c .before .near-box .ensures .0) ∙ not-turn (c .before .near-box .result) true (c .if1 .taken)))
+    other-box (a .place .side) (s .pre .0 .2) (take (a .v .channels) (a .at)) (take (a .v .channels) (a .place .centre)) (frame (a .v) (framesIn (a .n) (a .v .channels) (a .points .now)) (a .j)) (s .pre .1) (c .before .near-box .ensures .1) (c .before .near-box .result) (c .before .near-box .ensures .0) (c .if1 .taken)
 
 has-indexes-requires : tie.Need-has-indexes-requires
 has-indexes-requires c κs = search needs
