@@ -22,7 +22,8 @@ use Rattle.lists.specs.WordLaws.{four-over}
 use Rattle.lists.specs.PartLaws.{part-same}
 use Rattle.hyperparams.specs.Params.{float}
 use Rattle.counting_tree.specs.Grid.{index, centre, indexes, centres}
-use Rattle.counting_tree.specs.Box.{sumFrom, both, corners, distance, farthestFrom, farthest}
+use Rattle.counting_tree.specs.Box.{sumFrom, both, corners, farthest}
+use Rattle.counting_tree.specs.Farthest.{largestFrom}
 use Rattle.counting_tree.specs.Arrays.{placed, boxOf, cornerOf, rowOf, rowsOf}
 use Rattle.counting_tree.specs.Indexes.{centres-length}
 use Rattle.counting_tree.proofs.Index.{zero-is}
@@ -142,19 +143,19 @@ farthest-is n qs c e w all l h a f =
 -- ---- the scan of the first m rows, n coordinates of each
 module _ (n m : ℕ) (qs : List Float) (all : List (List Float)) (long : m ≤ length all) where
   abbrev pub scanRest : Float → ℕ → Float
-  scanRest far k = farthestFrom far qs (map (take n) (drop k (take m all)))
+  scanRest far k = largestFrom far qs (map (take n) (drop k (take m all)))
 
   -- one row more, by the value of the test
-  pub scan-step : (far d far' : Float) (k : ℕ) (t : Bool) → k < m → d ≡ distance qs (take n (getD all k [])) → lt far d ≡ t → far' ≡ cond t d far → scanRest far' (k + 1) ≡ scanRest far k
-  unfolding farthestFrom
-  scan-step far d far' k t h is test new =
+  pub scan-step : (far s far' : Float) (k : ℕ) (t : Bool) → k < m → s ≡ sumFrom (float 0) qs (take n (getD all k [])) → lt far s ≡ t → far' ≡ cond t s far → scanRest far' (k + 1) ≡ scanRest far k
+  unfolding largestFrom
+  scan-step far s far' k t h is test new =
       let j : k < length (take m all) = omega (arith, length-take-le m all long) in
-      let dist : d ≡ distance qs (take n (getD (take m all) k [])) = is ∙ ap (λ (l : List Float). distance qs (take n l)) (sym (getD-take m all k [] h)) in
+      let sum : s ≡ sumFrom (float 0) qs (take n (getD (take m all) k [])) = is ∙ ap (λ (l : List Float). sumFrom (float 0) qs (take n l)) (sym (getD-take m all k [] h)) in
       rw (add-one, drop-cons (take m all) k [] j)
-      (ap (λ (x : Float). farthestFrom x qs (map (take n) (drop (suc k) (take m all)))) (new ∙ rw (← test) (ap (λ (x : Float). cond (lt far x) x far) dist)))
+      (ap (λ (x : Float). largestFrom x qs (map (take n) (drop (suc k) (take m all)))) (new ∙ rw (← test) (ap (λ (x : Float). cond (lt far x) x far) sum)))
 
   pub scan-done : (far : Float) (k : ℕ) → m ≤ k → far ≡ scanRest far k
-  unfolding farthestFrom
+  unfolding largestFrom
   scan-done far k h = let j : length (take m all) ≤ k = omega (arith, length-take-le m all long) in rw (drop-of-length-le (take m all) j)
 
 -- ---- at most four counts as they stand in an array

@@ -1,5 +1,6 @@
 -- From frames in arrays to the geometry of the points.
 use mathlib.Core.Path.{_≡_, sym, ap, ap₂, _∙_}
+use mathlib.Core.Bool.{Bool}
 use mathlib.Core.List.{List, map}
 use Prim.Native.Nat.{ℕ, _+_, _*_, _≤_, _<_}
 use native.Mathlib.Nat.{mul-le-mul, add-zero}
@@ -18,15 +19,15 @@ use Rattle.counting_tree.specs.declared.Box.{Box}
 use Rattle.counting_tree.specs.declared.IntersectionType.{IntersectionType}
 use Rattle.counting_tree.specs.Frames.{Frame, framesIn, floats}
 use Rattle.counting_tree.specs.FramesIn.{frame-at, frame-inside, frame-length}
-use Rattle.counting_tree.specs.Grid.{centre, centres}
+use Rattle.counting_tree.specs.Grid.{sideAt, centre, indexes, centres}
 use Rattle.counting_tree.specs.Box.{intersection}
-use Rattle.counting_tree.specs.Geometry.{geometryOf, short, frame, N, near, within, boxAt}
+use Rattle.counting_tree.specs.Geometry.{geometryOf, short, frame, N, sameInts, near, within, boxAt}
 use Rattle.counting_tree.specs.Arrays.{placed, boxOf}
 use Rattle.counting_tree.specs.WholeDistance.{within-frames}
 use Rattle.counting_tree.specs.Domain.{Counts}
 use Rattle.counting_tree.specs.Sound.{pair}
 use Rattle.counting_tree.specs.Ready.{Ready, geometryAt, square-fits}
-use Rattle.counting_tree.specs.Indexes.{placed-first, centres-length}
+use Rattle.counting_tree.specs.Indexes.{placed-first, indexes-length, centres-length, same-indexes}
 use Rattle.counting_tree.proofs.Counts.{take-map}
 
 -- a place in the points, and its byte offset
@@ -79,6 +80,19 @@ module _ {ps : List ℤ} {v : ValidParams} {n : ℕ} (r : Ready ps v n) where
           ∙ part-same (replicate 4 (float 0)) 0 d (centres s (take d a)) (omega arith) (centres-length s (take d a) ∙ ap length frame-is ∙ frame-length n d ps i (r .room) h)
           ∙ ap (centres s) frame-is,
     )
+
+    -- it is the centre of the box of the frame's indexes
+    pub box-indexes : (s : Float) (b : Box) → b ≡ boxOf (v .channels) s a → (at : List ℤ) → at ≡ placed (indexes s (frame v (framesIn n (v .channels) ps) i)) → take (v .channels) (b .centre) ≡ map (centre (b .side)) (take (v .channels) at)
+    unfolding centres
+    box-indexes s b f at g =
+        let c = centre-is s b f in
+        let ys = indexes s (frame v fs i) in
+        c .1 ∙ ap (map (centre s)) (sym (ap (take d) g ∙ placed-first d ys (indexes-length s (frame v fs i) ∙ frame-length n d ps i (r .room) h))) ∙ ap (λ (x : Float). map (centre x) (take d at)) (sym (c .0))
+
+    -- frame j has these indexes exactly if it shares the frame's box of the level
+    pub box-same : (l : ℕ) (s : Float) → s ≡ sideAt (v .channels) (v .tolerance) l → (b : Box) → b ≡ boxOf (v .channels) s a → (at : List ℤ) → at ≡ placed (indexes s (frame v (framesIn n (v .channels) ps) i)) → (j : ℕ) (t : Bool)
+        → t ≡ sameInts (take (v .channels) at) (indexes (b .side) (frame v (framesIn n (v .channels) ps) j)) → t ≡ geometryAt v n ps .same l i j
+    box-same l s k b f at g j t u = same-indexes r l s k i j h at g t (u ∙ ap (λ (x : Float). sameInts (take d at) (indexes x (frame v fs j))) (centre-is s b f .0))
 
   -- m is the sum of squared differences of frames i and j
   module _ (i j m : ℕ) (e : m ≡ N v (framesIn n (v .channels) ps) i j) where

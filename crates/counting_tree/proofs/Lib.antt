@@ -6,4 +6,5 @@ pub mod Same
 pub mod Lent
 pub mod Settled
 pub mod Squares
+pub mod Near
 pub mod Walk

@@ -29,7 +29,7 @@ pub record Squares (xs ys : Frame) (k sum : ℕ) : Type 0 where
 squares-none : (xs ys : Frame) → Squares xs ys 0 0
 squares-none xs ys = record { value = zero-add (squared xs ys); bound = omega arith; left = λ m h. absurd (omega arith); right = λ m h. absurd (omega arith) }
 
-one-more : (zs : Frame) (k : ℕ) → ((m : ℕ) → m < k → Count (getD zs m (pos 0))) → Count (getD zs k (pos 0)) → (m : ℕ) → m < k + 1 → Count (getD zs m (pos 0))
+pub one-more : (zs : Frame) (k : ℕ) → ((m : ℕ) → m < k → Count (getD zs m (pos 0))) → Count (getD zs k (pos 0)) → (m : ℕ) → m < k + 1 → Count (getD zs m (pos 0))
 one-more zs k h c m l = go (ℕ-discrete m k)
   where
     go : Dec (m ≡ k) → Count (getD zs m (pos 0))

@@ -1,14 +1,14 @@
--- The farthest corner is no nearer than the centre. This holds of any floats of the format, for a half side above 0: whatever is rounded, overflows or is infinite.
+-- The farthest corner is no nearer than the centre: of any floats of the format, for a half side above 0. Its distance is the root of the largest sum of squares: of any floats. Both hold whatever is rounded, overflows or is infinite.
 use mathlib.Core.Path.{_≡_, refl, sym, ap, ap₂, _∙_, subst}
 use mathlib.Core.Logic.{_⊎_, inl, inr}
 use mathlib.Core.Bool.{Bool, true, false, not, cond, true≢false}
 use mathlib.Core.List.{List, [], _∷_}
 use Prim.Native.Nat.{ℕ, _+_, _≤_, _<_}
-use native.Mathlib.Nat.{le-trans, le-of-eq, le-of-lt, not-le-of-lt}
+use native.Mathlib.Nat.{le-trans, le-of-eq, le-of-lt, le-antisymm, not-le-of-lt}
 use native.Mathlib.Omega.{arith}
 use lib.IntN.{pos}
 use lib.Dec.{T, ltb→lt, nltb→le, lit≤}
-use lib.Ieee.{Float, nan, inf, fin, binary64, fits, isNan, neg, add, sub, mul, lt, le, eq}
+use lib.Ieee.{Float, nan, inf, fin, binary64, fits, isNan, neg, add, sub, mul, lt, le, eq, ofInt}
 use lib.Ieee.Fits.{add-fits, sub-fits, ofInt-fits}
 use Rattle.ring.specs.Nat.{lt-or-ge}
 use Rattle.ieee754.specs.Value.{mag, sign, Good}
@@ -16,6 +16,7 @@ use Rattle.ieee754.specs.Ops.{plus, minus, minus-pos, plus-neg, mag-parts, add-
 use Rattle.ieee754.specs.Exact.{Rep, ofInt-pos}
 use Rattle.ieee754.specs.Root.{root}
 use Rattle.ieee754.specs.Rank.{top, rank, Number, Size, Kind, endless, ended, kind, size-kind, rank-top, lt-rank, le-rank, Under, lowest, under, Over, highest, over, sum-number, sum-up, sum-down, sum-under, sum-over, top-size, top-left, add-size, add-rank, square-size, square-rank, good-known, root-held, root-size, root-rank}
+use Rattle.ieee754.specs.Unique.{rank-unique}
 use Rattle.hyperparams.specs.Params.{float}
 use Rattle.counting_tree.specs.Box.{sumFrom, distance, corners, farthestFrom, farthest}
 use Rattle.counting_tree.specs.Corners.{Member, here, there, in-low, in-high}
@@ -343,3 +344,71 @@ centre-not-nearer qs cs e ext Q C E X p l =
     let m = most a qs (corners cs e) z in
     not-nearer (farthest qs (corners cs e)) (distance qs cs) ext (m .size) (root-size (sumFrom a qs cs) c) X
     (le-trans (root-rank (sumFrom a qs cs) (sumFrom a qs (r .corner)) c (r .size) (r .farther)) (m .each (r .corner) (r .member) (root-size (sumFrom a qs (r .corner)) (r .size)))) l
+
+-- ---- the root of the largest sum
+-- the largest sum of squares, from `far` up
+unfoldable pub largestFrom : Float → List Float → List (List Float) → Float
+unfolding sumFrom lt ofInt
+largestFrom far qs [] = far
+largestFrom far qs (l ∷ ls) = let s = sumFrom (float 0) qs l in largestFrom (cond (lt far s) s far) qs ls
+
+sum-size : (a : Float) (qs ps : List Float) → Size a → T (not (isNan (sumFrom a qs ps))) → Size (sumFrom a qs ps)
+unfolding sumFrom
+sum-size a [] ps s n = s
+sum-size a (q ∷ qs) [] s n = s
+sum-size a (q ∷ qs) (p ∷ ps) s n =
+    let d = sub binary64 q p in
+    let w = mul binary64 d d in
+    let k = square-known d (add-known a w (sum-known (add binary64 a w) qs ps n) .1) in
+    sum-size (add binary64 a w) qs ps (add-size a w s (square-size d (record { held = sub-fits binary64 q p; known = k }))) n
+
+none-below : (x : Float) → lt x nan ≡ false
+unfolding lt
+none-below nan = refl
+none-below (inf s) = refl
+none-below (fin s m e) = refl
+
+root-nan : root nan ≡ nan
+unfolding root
+root-nan = refl
+
+is-nan : (x : Float) → isNan x ≡ true → x ≡ nan
+unfolding isNan
+is-nan nan e = refl
+is-nan (inf s) e = absurd (true≢false (sym e))
+is-nan (fin s m e) h = absurd (true≢false (sym h))
+
+-- the larger of two roots is the root of the larger: where rounding makes the roots equal they are the same value
+root-larger : (far s : Float) → Size far → (T (not (isNan s)) → Size s) → cond (lt (root far) (root s)) (root s) (root far) ≡ root (cond (lt far s) s far)
+root-larger far s F S = go (isNan s) refl
+  where
+    by : Size s → (a b : Bool) → lt far s ≡ a → lt (root far) (root s) ≡ b → cond b (root s) (root far) ≡ root (cond a s far)
+    by S true true p q = refl
+    by S false false p q = refl
+    by S true false p q = rank-unique (root far) (root s) (root-size far F) (root-size s S)
+        (le-antisymm (root-rank far s F S (le-of-lt (less-rank far s F S p))) (no-less-rank (root far) (root s) (root-size far F) (root-size s S) q))
+    by S false true p q = absurd (not-le-of-lt (less-rank (root far) (root s) (root-size far F) (root-size s S) q) (root-rank s far S F (no-less-rank far s F S p)))
+
+    go : (n : Bool) → isNan s ≡ n → cond (lt (root far) (root s)) (root s) (root far) ≡ root (cond (lt far s) s far)
+    go false e = by (S (true-is (ap not e))) (lt far s) (lt (root far) (root s)) refl refl
+    go true e =
+        let i = is-nan s e in
+        ap (λ (t : Bool). cond t (root s) (root far)) (ap (λ (x : Float). lt (root far) (root x)) i ∙ ap (lt (root far)) root-nan ∙ none-below (root far))
+        ∙ sym (ap (λ (t : Bool). root (cond t s far)) (ap (lt far) i ∙ none-below far))
+
+larger-size : (far s : Float) (t : Bool) → Size far → T (fits binary64 s) → lt far s ≡ t → Size (cond t s far)
+larger-size far s true F f e = more-size far s F f e
+larger-size far s false F f e = F
+
+from-root : (far : Float) (qs : List Float) (ls : List (List Float)) → Size far → farthestFrom (root far) qs ls ≡ root (largestFrom far qs ls)
+unfolding farthestFrom largestFrom distance
+from-root far qs [] F = refl
+from-root far qs (l ∷ ls) F =
+    let s = sumFrom (float 0) qs l in
+    ap (λ (x : Float). farthestFrom x qs ls) (root-larger far s F (sum-size (float 0) qs l zero-size))
+    ∙ from-root (cond (lt far s) s far) qs ls (larger-size far s (lt far s) F (sum-held (float 0) qs l (zero-size .held)) refl)
+
+-- the farthest distance is the root of the largest sum of squares: rounding keeps the order of roots
+pub farthest-root : (qs : List Float) (ls : List (List Float)) → root (largestFrom (float 0) qs ls) ≡ farthest qs ls
+unfolding farthest root ofInt
+farthest-root qs ls = sym (from-root (float 0) qs ls zero-size)

@@ -28,3 +28,5 @@ pub mod Reach
 pub mod BySum
 pub mod Settled
 pub mod SettledLaws
+pub mod NearBox
+pub mod NearBoxLaws

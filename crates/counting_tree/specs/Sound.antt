@@ -42,7 +42,7 @@ ints-same : (xs : List ℤ) → T (sameInts xs xs)
 ints-same [] = tt
 ints-same (x ∷ xs) = and-both (sameInt x x) (sameInts xs xs) (int-same x) (ints-same xs)
 
-same-ints : (xs ys : List ℤ) → T (sameInts xs ys) → xs ≡ ys
+pub same-ints : (xs ys : List ℤ) → T (sameInts xs ys) → xs ≡ ys
 same-ints [] [] h = refl
 same-ints [] (y ∷ ys) h = absurd h
 same-ints (x ∷ xs) [] h = absurd h

@@ -125,7 +125,7 @@ pub fn get_corners(centre: [f64; 4], side: f64, channels: usize) -> [[f64; 4]; 1
     all
 }
 
-// The distance of the farthest corner.
+// The distance of the farthest corner: the root of the largest sum of squares, since rounding keeps the order of roots.
 pub fn farthest_corner(q: [f64; 4], all: [[f64; 4]; 16], channels: usize) -> f64
     requires { ⌜ channels ≤ 4 ⌝ }
     ensures { λ r. ⌜ r ≡ farthest (take channels q) (map (take channels) (take (2 ^ channels) all)) ⌝ }
@@ -133,12 +133,12 @@ pub fn farthest_corner(q: [f64; 4], all: [[f64; 4]; 16], channels: usize) -> f64
     let mut far = 0.0f64;
     let n = corner_count(channels);
     for k in 0..n {
-        let d = distance(q, all[k], channels);
-        if far < d {
-            far = d;
+        let sum = square_sum(q, all[k], channels);
+        if far < sum {
+            far = sum;
         }
     }
-    far
+    ieee754::root(far)
 }
 
 // The box against the frame q: t is the tolerance, and appx the extended one.

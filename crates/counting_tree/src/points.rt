@@ -1,5 +1,6 @@
 // The frames of the lent points, and what cells and trees ask of two of them: the geometry, on the first n frames.
 ghost use mathlib.Core.Path.{_≡_};
+ghost use mathlib.Core.Bool.{cond};
 ghost use mathlib.Core.List.{map};
 ghost use Prim.Native.Nat.{_+_, _*_, _^_, _≤_, _<_};
 ghost use lib.IntN.{pos, _+ℤ_};
@@ -10,8 +11,9 @@ ghost use Rattle.counting_tree.specs.Frames as Frames;
 ghost use Rattle.counting_tree.specs.Frames.{framesIn, apart};
 ghost use Rattle.counting_tree.specs.Box.{sumFrom};
 ghost use Rattle.counting_tree.specs.Settled.{settledBy};
+ghost use Rattle.counting_tree.specs.NearBox.{reach, closeTo, nearBox};
 ghost use Rattle.hyperparams.specs.Params.{float};
-ghost use Rattle.counting_tree.specs.Grid.{indexes};
+ghost use Rattle.counting_tree.specs.Grid.{centre, indexes};
 ghost use Rattle.counting_tree.specs.Geometry.{frame, N, sameInts, boxAt};
 ghost use Rattle.counting_tree.specs.Arrays.{placed};
 ghost use Rattle.counting_tree.specs.Radius.{Side};
@@ -21,6 +23,7 @@ use super::boxes::box_of;
 use super::boxes::determine_intersection;
 use super::boxes::square_sum;
 use super::grid::cell_index;
+use super::grid::half_side;
 use crate::Box;
 use crate::IntersectionType;
 use hyperparams::ValidParams;
@@ -152,14 +155,7 @@ pub fn indexes_at(points: &[i16], v: ValidParams, n: usize, side: f64, i: usize)
 }
 
 // Whether frame j has the indexes `at` at a side: the first channel that differs settles it.
-pub fn has_indexes(
-    points: &[i16],
-    v: ValidParams,
-    n: usize,
-    side: f64,
-    at: [i64; 4],
-    j: usize,
-) -> bool
+fn has_indexes(points: &[i16], v: ValidParams, n: usize, side: f64, at: [i64; 4], j: usize) -> bool
     requires { ⌜ Ready (now points) v n × (j < n) × Side side ⌝ }
     ensures { λ r. ⌜ r ≡ sameInts (take (v .channels) at) (indexes side (frame v (framesIn n (v .channels) (now (points .entry))) j)) ⌝ }
 {
@@ -183,6 +179,64 @@ pub fn has_indexes(
         return true;
     }
     cell_index(side, points[start + 3]) == at[3]
+}
+
+// 1 where a count lies more than `reach` from the centre, else 0.
+fn off(x: i16, centre: f64, reach: f64) -> u64
+    ensures value { λ r. ⌜ r ≡ cond (closeTo reach centre x) 0 1 ⌝ }
+    ensures bound { λ r. ⌜ r ≤ 1 ⌝ }
+{
+    let d = x as f64 - centre;
+    if d < -reach {
+        return 1;
+    }
+    if reach < d {
+        return 1;
+    }
+    0
+}
+
+// Whether frame j lies at most half a side and 1 from the centre of `place` in each channel; its counts are then known to be signed 16-bit numbers. The sum is tested once: a branch for each channel could not be predicted.
+fn near_box(points: &[i16], v: ValidParams, n: usize, place: Box, j: usize) -> bool
+    requires { ⌜ Ready (now points) v n × (j < n) ⌝ }
+    ensures value { λ r. ⌜ r ≡ nearBox (reach (place .side)) (take (v .channels) (place .centre)) (frame v (framesIn n (v .channels) (now (points .entry))) j) ⌝ }
+    ensures counts { λ _. ⌜ Counts (frame v (framesIn n (v .channels) (now (points .entry))) j) ⌝ }
+{
+    let start = j * v.channels;
+    let reach = half_side(place.side) + 1.0;
+    let centre = place.centre;
+    let one = off(points[start], centre[0], reach);
+    if v.channels < 2 {
+        return one == 0;
+    }
+    let two = one + off(points[start + 1], centre[1], reach);
+    if v.channels < 3 {
+        return two == 0;
+    }
+    let three = two + off(points[start + 2], centre[2], reach);
+    if v.channels < 4 {
+        return three == 0;
+    }
+    three + off(points[start + 3], centre[3], reach) == 0
+}
+
+// Whether frame j has the indexes `at` at the side of `place`, which is their box: a frame that is not near the box has not, and no index has to be worked out.
+pub fn shares_box(
+    points: &[i16],
+    v: ValidParams,
+    n: usize,
+    at: [i64; 4],
+    place: Box,
+    j: usize,
+) -> bool
+    requires { ⌜ Ready (now points) v n × (j < n) × Side (place .side) ⌝ }
+    requires { ⌜ take (v .channels) (place .centre) ≡ map (centre (place .side)) (take (v .channels) at) ⌝ }
+    ensures { λ r. ⌜ r ≡ sameInts (take (v .channels) at) (indexes (place .side) (frame v (framesIn n (v .channels) (now (points .entry))) j)) ⌝ }
+{
+    if !near_box(points, v, n, place, j) {
+        return false;
+    }
+    has_indexes(points, v, n, place.side, at, j)
 }
 
 // Whether the cells with the first frames c and d list each other.

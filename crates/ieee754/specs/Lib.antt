@@ -15,4 +15,5 @@ pub mod RootLaw
 pub mod RootDigits
 pub mod RootNearest
 pub mod Rank
+pub mod Unique
 pub mod Whole

@@ -60,12 +60,14 @@ fn spread(
     ensures { λ _. ⌜ (let f = geometryAt v n (now (points .entry)) .same level pivot in let xs = part (now (work .entry)) from m in now (work .exit) ≡ over (over (now (work .entry)) from (keep f xs)) scratch (lose f xs)) ⌝ }
 {
     let at = counting_tree::points::indexes_at(points, v, n, side, pivot);
+    let counts = counting_tree::points::frame_at(points, v.channels, pivot);
+    let place = counting_tree::boxes::box_of(counts, side, v.channels);
     let mut kept = 0;
     let mut lost = 0;
     let mut i = 0;
     while i < m {
         let x = work[from + i];
-        if counting_tree::points::has_indexes(points, v, n, side, at, lists::wide(x)) {
+        if counting_tree::points::shares_box(points, v, n, at, place, lists::wide(x)) {
             work[from + kept] = x;
             kept += 1;
             i += 1;

@@ -1,20 +1,22 @@
 -- `spread` meets its contract: the invariant of its loop is `Spread`.
 use borrow.Author.Needs.{needs}
-use mathlib.Core.Path.{refl}
+use mathlib.Core.Path.{refl, sym, subst}
 use Prim.Native.Nat.{_-_}
 use native.Mathlib.Omega.{arith}
 use native.Mathlib.Nat.{le-antisymm}
 use Rattle.counting_tree.specs.Ready.{geometryAt}
-use Rattle.counting_tree.specs.Indexes.{ready-side, same-indexes}
+use Rattle.counting_tree.specs.Radius.{Side}
+use Rattle.counting_tree.specs.Indexes.{ready-side}
+use Rattle.counting_tree.proofs.Lent.{some-channels, inside, centre-is, box-indexes, box-same}
 use Rattle.tree_structure.proofs.Parting.{Spread, spread-start, spread-sum, spread-length, spread-below, spread-keep, spread-lose}
 use Rattle.tree_structure.proofs.spread.Statement.{statement}
 use Rattle.tree_structure.proofs.spread.Tie as tie
 
 abbrev Inv-loop : tie.InvT-loop
-Inv-loop points v n work₀ scratch from m pivot level side at kept₀ lost₀ i₀ work kept lost i = Spread (geometryAt v n points .same level pivot) work₀ scratch from m work kept lost i
+Inv-loop points v n work₀ scratch from m pivot level side at place kept₀ lost₀ i₀ work kept lost i = Spread (geometryAt v n points .same level pivot) work₀ scratch from m work kept lost i
 
 abbrev μ-loop : tie.MeasureT-loop
-μ-loop points v n work₀ scratch from m pivot level side at kept₀ lost₀ i₀ work kept lost i = m - i
+μ-loop points v n work₀ scratch from m pivot level side at place kept₀ lost₀ i₀ work kept lost i = m - i
 
 indexes-at-requires : tie.Need-indexes-at-requires Inv-loop μ-loop
 indexes-at-requires c κs =
@@ -22,8 +24,14 @@ indexes-at-requires c κs =
     let p = s .pre .0 in
     (p .0, p .1, ready-side (p .0) (s .args .level) (s .args .side) (p .4) (p .2))
 
+frame-at-requires : tie.Need-frame-at-requires Inv-loop μ-loop
+frame-at-requires c κs = let p = c .before .before .pre .0 in (some-channels (p .0) .1, inside (p .0) (c .before .before .args .pivot) (p .1))
+
+box-of-requires : tie.Need-box-of-requires Inv-loop μ-loop
+box-of-requires c κs = let s = c .before .before .before in let p = s .pre .0 in (ready-side (p .0) (s .args .level) (s .args .side) (p .4) (p .2), some-channels (p .0) .1)
+
 loop-holds : tie.Need-loop-holds Inv-loop μ-loop
-loop-holds c = spread-start (c .before .before .pre .1 .0) (c .before .before .pre .1 .1)
+loop-holds c = spread-start (c .before .before .before .before .pre .1 .0) (c .before .before .before .before .pre .1 .1)
 
 add-x : tie.Need-add-x Inv-loop μ-loop
 add-x c = omega arith
@@ -37,11 +45,14 @@ slice-read-x c = omega (arith, spread-length (c .before .before .loop .inv))
 wide-requires : tie.Need-wide-requires Inv-loop μ-loop
 wide-requires c κs = search needs
 
-has-indexes-requires : tie.Need-has-indexes-requires Inv-loop μ-loop
-has-indexes-requires c κs =
-    let s = c .before .before .before .before .before .before in
+shares-box-requires : tie.Need-shares-box-requires Inv-loop μ-loop
+shares-box-requires c κs =
+    let s = c .before .before .before .before .before .before .before .before in
     let p = s .pre .0 in
-    (p .0, omega (arith, c .wide .ensures, spread-below (c .before .before .before .loop .inv) (c .before .before .loop-test .taken) (p .3)), ready-side (p .0) (s .args .level) (s .args .side) (p .4) (p .2))
+    let b = centre-is (p .0) (s .args .pivot) (p .1) (c .before .before .before .before .before .frame-at .result) (c .before .before .before .before .before .frame-at .ensures) (s .args .side) (c .before .before .before .before .box-of .result) (c .before .before .before .before .box-of .ensures) in (
+      (p .0, omega (arith, c .wide .ensures, spread-below (c .before .before .before .loop .inv) (c .before .before .loop-test .taken) (p .3)), subst Side (sym (b .0)) (ready-side (p .0) (s .args .level) (s .args .side) (p .4) (p .2))),
+      box-indexes (p .0) (s .args .pivot) (p .1) (c .before .before .before .before .before .frame-at .result) (c .before .before .before .before .before .frame-at .ensures) (s .args .side) (c .before .before .before .before .box-of .result) (c .before .before .before .before .box-of .ensures) (c .before .before .before .before .before .before .indexes-at .result) (c .before .before .before .before .before .before .indexes-at .ensures),
+    )
 
 add-work : tie.Need-add-work Inv-loop μ-loop
 add-work c = omega (arith, spread-sum (c .before .before .before .before .before .loop .inv))
@@ -63,9 +74,9 @@ loop-less c = omega arith
 
 loop-again : tie.Need-loop-again Inv-loop μ-loop
 loop-again c =
-    let s = c .before .before .before .before .before .before .before .before in
+    let s = c .before .before .before .before .before .before .before .before .before .before in
     let p = s .pre .0 in
-    let e = same-indexes (p .0) (s .args .level) (s .args .side) (p .4) (s .args .pivot) (c .before .before .wide .result) (p .1) (c .before .before .before .before .before .before .indexes-at .result) (c .before .before .before .before .before .before .indexes-at .ensures) (c .before .has-indexes .result) (c .before .has-indexes .ensures) in
+    let e = box-same (p .0) (s .args .pivot) (p .1) (c .before .before .before .before .before .before .before .frame-at .result) (c .before .before .before .before .before .before .before .frame-at .ensures) (s .args .level) (s .args .side) (p .4) (c .before .before .before .before .before .before .box-of .result) (c .before .before .before .before .before .before .box-of .ensures) (c .before .before .before .before .before .before .before .before .indexes-at .result) (c .before .before .before .before .before .before .before .before .indexes-at .ensures) (c .before .before .wide .result) (c .before .shares-box .result) (c .before .shares-box .ensures) in
     spread-keep (c .before .before .before .before .before .loop .inv) (c .before .before .before .before .loop-test .taken) _ refl (c .before .before .wide .ensures) e (c .if1 .taken)
 
 add-work-2 : tie.Need-add-work-2 Inv-loop μ-loop
@@ -88,9 +99,9 @@ loop-less-2 c = omega arith
 
 loop-again-2 : tie.Need-loop-again-2 Inv-loop μ-loop
 loop-again-2 c =
-    let s = c .before .before .before .before .before .before .before .before in
+    let s = c .before .before .before .before .before .before .before .before .before .before in
     let p = s .pre .0 in
-    let e = same-indexes (p .0) (s .args .level) (s .args .side) (p .4) (s .args .pivot) (c .before .before .wide .result) (p .1) (c .before .before .before .before .before .before .indexes-at .result) (c .before .before .before .before .before .before .indexes-at .ensures) (c .before .has-indexes .result) (c .before .has-indexes .ensures) in
+    let e = box-same (p .0) (s .args .pivot) (p .1) (c .before .before .before .before .before .before .before .frame-at .result) (c .before .before .before .before .before .before .before .frame-at .ensures) (s .args .level) (s .args .side) (p .4) (c .before .before .before .before .before .before .box-of .result) (c .before .before .before .before .before .before .box-of .ensures) (c .before .before .before .before .before .before .before .before .indexes-at .result) (c .before .before .before .before .before .before .before .before .indexes-at .ensures) (c .before .before .wide .result) (c .before .shares-box .result) (c .before .shares-box .ensures) in
     spread-lose (c .before .before .before .before .before .loop .inv) (c .before .before .before .before .loop-test .taken) _ refl (c .before .before .wide .ensures) e (c .if1 .left)
 
 same-length : tie.Need-same-length Inv-loop μ-loop
@@ -109,12 +120,14 @@ spread-spec =
     Inv-loop
     μ-loop
     indexes-at-requires
+    frame-at-requires
+    box-of-requires
     loop-holds
     add-x
     mul-x
     slice-read-x
     wide-requires
-    has-indexes-requires
+    shares-box-requires
     add-work
     mul-work
     slice-write-work
