@@ -13,7 +13,7 @@ use lib.ListN.{length, getD, take}
 use lib.Ieee.{Float}
 use Rattle.lists.specs.Lists.{In, Below, any, nonzero}
 use Rattle.lists.specs.Words.{part}
-use Rattle.lists.specs.ListLaws.{true-T, T-true, both-ways, nonzero-true, nonzero-eqb, any-in, any-none}
+use Rattle.lists.specs.ListLaws.{true-T, T-true, both-ways, nonzero-eqb, any-in, any-none}
 use Rattle.hyperparams.specs.declared.ValidParams.{ValidParams}
 use Rattle.hyperparams.specs.Params.{float}
 use Rattle.counting_tree.specs.declared.Box.{Box}
@@ -63,8 +63,8 @@ pub not-first : {ps : List ℤ} {v : ValidParams} {n k : ℕ} {w : List ℕ} {q 
 unfolding rootUnless
 not-first p f = (p .0, p .1, p .2, p .3, rw f at (p .4))
 
--- what is asked with something more, without it
-pub asked : {ps : List ℤ} {v : ValidParams} {n k : ℕ} {w : List ℕ} {q c : ℕ} {More : Type 0} → Ready ps v n × Grown (geometryAt v n ps) k w × (q < n) × (c < k) × More
+-- what is asked with a root box, without it
+pub asked : {ps : List ℤ} {v : ValidParams} {n k : ℕ} {w : List ℕ} {q c : ℕ} {root : Box} → Ready ps v n × Grown (geometryAt v n ps) k w × (q < n) × (c < k) × (root ≡ rootBox v n ps c)
     → Ready ps v n × Grown (geometryAt v n ps) k w × (q < n) × (c < k)
 asked p = (p .0, p .1, p .2, p .3)
 
@@ -166,15 +166,12 @@ module _ {ps : List ℤ} {v : ValidParams} {n k : ℕ} {w : List ℕ} {q c : ℕ
     tested : {t : IntersectionType} → told ≡ t → g .box q 0 (cellAt g c) ≡ t
     tested z = sym (ap (g .box q 0) (first-is (p .0) (p .1) (p .3) ex)) ∙ sym (et ∙ box-level (p .0) 0 side es q x) ∙ z
 
-    pub test-tells : 0 < getD w (5 * n + c) 0 → Tells v n ps q c told
-    test-tells h = go told refl
+    pub test-tells : {b : Bool} → b ≡ nonzero (getD w (5 * n + c) 0) → not b ≡ false → Tells v n ps q c told
+    test-tells {b} eb f = go told refl
       where
-        core : T (isCore g c)
-        core = true-T (sym (is-core-cell (p .1) e c (p .3)) ∙ nonzero-true (getD w (5 * n + c) 0) (λ z. omega arith))
-
         go : (t : IntersectionType) → told ≡ t → Tells v n ps q c t
         go Disjoint z = sym (disjoint-count g L q (cellAt g c) (tested z))
-        go FullyCovered z = sym (covered-count g L q (cellAt g c) (tested z) core)
+        go FullyCovered z = sym (covered-count g L q (cellAt g c) (tested z) (true-T (core-is eb ∙ not-false b f)))
         go Intersecting z = refl
 
     pub test-open : told ≡ Intersecting → {from end : ℕ} → from ≡ getD w (2 * n + c) 0 → end ≡ endIn w n k c

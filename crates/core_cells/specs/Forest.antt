@@ -29,7 +29,7 @@ pub record CanGather (w : List ℕ) (n from to at : ℕ) : Type 0 where
 
 -- a run of k cells builds the trees of those with more core frames than this: none where there is one level below the root, or one cell
 unfoldable pub pathLimit : (levels k : ℕ) → ℕ
-pathLimit levels k = cond (leb levels 1 || leb k 1) maxFrames 1024
+pathLimit levels k = cond (leb levels 1 || leb k 1) maxFrames 64
 
 module _ (g : Geometry) where
   -- the core frames of the cell with number c, and whether there are any

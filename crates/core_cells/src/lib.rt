@@ -43,7 +43,7 @@ const SCRATCH: usize = 12;
 const NODES: usize = 16;
 
 // A cell with at most so many core frames has no tree in a run: its frames' own paths are taken.
-const PATHS: usize = 1024;
+const PATHS: usize = 64;
 
 // As many as a run can have.
 const ALL: usize = 4096;
@@ -390,32 +390,8 @@ fn settled_by_frames(
     IntersectionType::Intersecting
 }
 
-// Whether frame q has a non-zero count in the tree of core cell c, by the paths of its frames. They share the root box, which is tested once.
+// Whether frame q has a non-zero count in the tree of cell c, by the paths of its core frames. They share the root box, which is tested once.
 fn reaches_by_paths(
-    points: &[i16],
-    v: ValidParams,
-    n: usize,
-    k: usize,
-    work: &[Word],
-    q: usize,
-    c: usize,
-) -> bool
-    requires { ⌜ Ready (now points) v n × Grown (geometryAt v n (now points)) k (now work) × (q < n) × (c < k) × (0 < getD (now work) (5 * n + c) 0) ⌝ }
-    ensures { λ r. ⌜ r ≡ nonzero (count (geometryAt v n (now (points .entry))) q (cellAt (geometryAt v n (now (points .entry))) c)) ⌝ }
-{
-    let side = counting_tree::grid::base_side(v.tolerance, v.channels);
-    let first = lists::word(work, n + c);
-    let told = counting_tree::points::classify(points, v, n, q, side, first);
-    if let IntersectionType::Intersecting = told {
-        let from = lists::word(work, STARTS * n + c);
-        let end = cells_grid::cell_end(work, n, k, c);
-        return some_reaches(points, v, n, work, q, from, end);
-    }
-    is_covered(told)
-}
-
-// Whether frame q has a non-zero count in the tree of cell c, by the paths of its frames, or by the tree where it is built.
-fn is_counted(
     points: &[i16],
     v: ValidParams,
     n: usize,
@@ -427,14 +403,18 @@ fn is_counted(
     requires { ⌜ Ready (now points) v n × Grown (geometryAt v n (now points)) k (now work) × (q < n) × (c < k) ⌝ }
     ensures { λ r. ⌜ r ≡ nonzero (count (geometryAt v n (now (points .entry))) q (cellAt (geometryAt v n (now (points .entry))) c)) ⌝ }
 {
-    let tree = lists::word(work, TREES * n + c);
-    if tree == 0 {
+    if !is_core_cell(work, n, c) {
         return false;
     }
-    if tree == 1 {
-        return reaches_by_paths(points, v, n, k, work, q, c);
+    let side = counting_tree::grid::base_side(v.tolerance, v.channels);
+    let first = lists::word(work, n + c);
+    let told = counting_tree::points::classify(points, v, n, q, side, first);
+    if let IntersectionType::Intersecting = told {
+        let from = lists::word(work, STARTS * n + c);
+        let end = cells_grid::cell_end(work, n, k, c);
+        return some_reaches(points, v, n, work, q, from, end);
     }
-    tree_count(points, v, n, k, work, q, c).count != 0
+    is_covered(told)
 }
 
 // What the frames of cell c, or its root box `root`, tell of the count of frame q in its tree.
@@ -459,7 +439,8 @@ fn told_by(
     settled_by_root(points, v, n, k, work, q, c, root)
 }
 
-// The same as `is_counted`, by what the frames of the cell, or else its root box, settle first.
+// The same by the tree, where it is built; else by what the frames of the cell, or its root box, settle, and then by paths.
+// (All frames of a cell that has a tree would take longer than the tree.)
 fn reaches_second(
     frames: bool,
     points: &[i16],
@@ -473,15 +454,18 @@ fn reaches_second(
     requires { ⌜ Ready (now points) v n × Grown (geometryAt v n (now points)) k (now work) × (q < n) × (c < k) ⌝ }
     ensures { λ r. ⌜ r ≡ nonzero (count (geometryAt v n (now (points .entry))) q (cellAt (geometryAt v n (now (points .entry))) c)) ⌝ }
 {
+    if lists::word(work, TREES * n + c) > 1 {
+        return tree_count(points, v, n, k, work, q, c).count != 0;
+    }
     let root = root_unless(frames, points, v, n, k, work, c);
     let told = told_by(frames, points, v, n, k, work, q, c, root);
     if let IntersectionType::Intersecting = told {
-        return is_counted(points, v, n, k, work, q, c);
+        return reaches_by_paths(points, v, n, k, work, q, c);
     }
     is_covered(told)
 }
 
-// Whether frame q has a non-zero count in the tree of cell c: by its frames first, or by its root box, which is `root` then; what the one leaves open, the other is asked.
+// Whether frame q has a non-zero count in the tree of cell c: by its frames first, or by its root box, which is `root` then; what the one leaves open, the tree is asked, or the other.
 pub fn reaches(
     points: &[i16],
     v: ValidParams,

@@ -15,7 +15,7 @@ one-cell : (s k : ℕ) → 0 < s → k ≤ 1 → 4096 ≡ pathLimit (1 + s) k
 unfolding pathLimit
 one-cell s k l h = rw (lt-leb (1 + s) 1 (omega arith), le-leb k 1 h)
 
-more : (s k : ℕ) → 0 < s → 1 < k → 1024 ≡ pathLimit (1 + s) k
+more : (s k : ℕ) → 0 < s → 1 < k → 64 ≡ pathLimit (1 + s) k
 unfolding pathLimit
 more s k l h = rw (lt-leb (1 + s) 1 (omega arith), lt-leb k 1 h)
 
