@@ -1,15 +1,16 @@
+-- `higher` meets its contract.
+use borrow.Author.Tests.{lt-ltb, le-ltb}
+use Rattle.core_cells.specs.Spans.{higher}
 use Rattle.core_cells.proofs.spans.higher.Statement.{statement}
 use Rattle.core_cells.proofs.spans.higher.Tie as tie
-use Rattle.core_cells.proofs.spans.higher.Reads as reads
-use Rattle.core_cells.proofs.spans.higher.Lts as lts
 
--- src/spans.rt:54:9
 returns : tie.Need-returns
-returns c = ?
+unfolding higher
+returns c = rw (lt-ltb (c .before .args .a) (c .before .args .b) (c .if1 .taken))
 
--- src/spans.rt:50:1
 returns-2 : tie.Need-returns-2
-returns-2 c = ?
+unfolding higher
+returns-2 c = rw (le-ltb (c .before .args .a) (c .before .args .b) (c .if1 .left))
 
 pub higher-spec : {M : Type 1} → statement M
 higher-spec = tie.close (tie.spec returns returns-2)

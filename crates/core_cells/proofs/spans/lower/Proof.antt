@@ -1,15 +1,16 @@
+-- `lower` meets its contract.
+use borrow.Author.Tests.{lt-ltb, le-ltb}
+use Rattle.core_cells.specs.Spans.{lower}
 use Rattle.core_cells.proofs.spans.lower.Statement.{statement}
 use Rattle.core_cells.proofs.spans.lower.Tie as tie
-use Rattle.core_cells.proofs.spans.lower.Reads as reads
-use Rattle.core_cells.proofs.spans.lower.Lts as lts
 
--- src/spans.rt:44:9
 returns : tie.Need-returns
-returns c = ?
+unfolding lower
+returns c = rw (lt-ltb (c .before .args .b) (c .before .args .a) (c .if1 .taken))
 
--- src/spans.rt:40:1
 returns-2 : tie.Need-returns-2
-returns-2 c = ?
+unfolding lower
+returns-2 c = rw (le-ltb (c .before .args .b) (c .before .args .a) (c .if1 .left))
 
 pub lower-spec : {M : Type 1} → statement M
 lower-spec = tie.close (tie.spec returns returns-2)

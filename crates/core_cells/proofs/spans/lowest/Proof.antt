@@ -1,61 +1,47 @@
+-- The lower of two counts in each channel.
+use Rattle.core_cells.proofs.Spanning.{lowest-is}
 use borrow.Author.Needs.{needs}
 use Rattle.core_cells.proofs.spans.lowest.Statement.{statement}
 use Rattle.core_cells.proofs.spans.lowest.Tie as tie
-use Rattle.core_cells.proofs.spans.lowest.Reads as reads
-use Rattle.core_cells.proofs.spans.lowest.Lts as lts
-use Rattle.core_cells.proofs.spans.lower.Reads as lower-reads
 
--- src/spans.rt:64:15
 array-read-lower : tie.Need-array-read-lower
 array-read-lower c = search needs
 
--- src/spans.rt:64:21
 array-read-lower-2 : tie.Need-array-read-lower-2
 array-read-lower-2 c = search needs
 
--- src/spans.rt:64:9
 lower-requires : tie.Need-lower-requires
 lower-requires c κs = search needs
 
--- src/spans.rt:65:15
 array-read-lower-3 : tie.Need-array-read-lower-3
 array-read-lower-3 c = search needs
 
--- src/spans.rt:65:21
 array-read-lower-4 : tie.Need-array-read-lower-4
 array-read-lower-4 c = search needs
 
--- src/spans.rt:65:9
 lower-requires-2 : tie.Need-lower-requires-2
 lower-requires-2 c κs = search needs
 
--- src/spans.rt:66:15
 array-read-lower-5 : tie.Need-array-read-lower-5
 array-read-lower-5 c = search needs
 
--- src/spans.rt:66:21
 array-read-lower-6 : tie.Need-array-read-lower-6
 array-read-lower-6 c = search needs
 
--- src/spans.rt:66:9
 lower-requires-3 : tie.Need-lower-requires-3
 lower-requires-3 c κs = search needs
 
--- src/spans.rt:67:15
 array-read-lower-7 : tie.Need-array-read-lower-7
 array-read-lower-7 c = search needs
 
--- src/spans.rt:67:21
 array-read-lower-8 : tie.Need-array-read-lower-8
 array-read-lower-8 c = search needs
 
--- src/spans.rt:67:9
 lower-requires-4 : tie.Need-lower-requires-4
 lower-requires-4 c κs = search needs
 
--- src/spans.rt:60:1
 returns : tie.Need-returns
-returns c = ?
+returns c = lowest-is _ _ (c .before .before .before .lower .ensures) (c .before .before .lower2 .ensures) (c .before .lower3 .ensures) (c .lower4 .ensures)
 
 pub lowest-spec : {M : Type 1} → statement M
 lowest-spec =
