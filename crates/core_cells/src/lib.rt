@@ -2,6 +2,7 @@
 // and asked for the count of a frame, or only whether it is 0, which whole numbers mostly tell without the tree.
 // `v` has the settings, `n` is the number of frames, `k` the number of cells.
 pub mod spans;
+
 use cells_grid::PLACES;
 use cells_grid::STARTS;
 use cells_grid::listing::TREES;
@@ -202,7 +203,7 @@ fn least_square(
 
 // Reads the frames at the places from `from` up to `to`: their counts are then known to be signed 16-bit numbers.
 // Nothing is done with them, so the compiler leaves nothing of the loop.
-pub(crate) fn read_frames(points: &[i16], v: ValidParams, n: usize, work: &[Word], from: usize, to: usize)
+fn read_frames(points: &[i16], v: ValidParams, n: usize, work: &[Word], from: usize, to: usize)
     requires { ⌜ Ready (now points) v n × CanLook (now work) n from to ⌝ }
     ensures { λ _. ⌜ ((x : ℕ) → In x (part (now (work .entry)) (3 * n + from) (to - from)) → Counts (frame v (framesIn n (v .channels) (now (points .entry))) x)) ⌝ }
 {
@@ -214,7 +215,7 @@ pub(crate) fn read_frames(points: &[i16], v: ValidParams, n: usize, work: &[Word
 }
 
 // "The far reach is N × (4 to the power s) < (t × ((2 to the power s) + 1)) squared + (4 to the power s).": whether N is not below it.
-pub(crate) fn out_of_reach(t: u64, s: usize, square: u64) -> bool
+fn out_of_reach(t: u64, s: usize, square: u64) -> bool
     requires { ⌜ (t ≤ 65535) × (s ≤ maxPower) × (square ≤ beyond) ⌝ }
     ensures { λ r. ⌜ r ≡ outOfReach t s square ⌝ }
 {
