@@ -40,7 +40,7 @@ pub struct Progress {
     pub d: usize,
 }
 
-// Whether a core frame of cell c has a non-zero count in the tree of cell d.
+// Whether a core frame of cell c has a non-zero count in the tree of cell d. (No frame is asked where the spans of the cells tell that there is none.)
 pub fn touches_cell(
     points: &[i16],
     v: ValidParams,

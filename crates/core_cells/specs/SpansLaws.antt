@@ -1,5 +1,5 @@
 -- Laws of spans: each frame that is taken lies within the span, so no frames of two spans are nearer than the spans are.
-use mathlib.Core.Path.{_≡_, refl, sym, ap, ap₂, subst, _∙_}
+use mathlib.Core.Path.{_≡_, refl, sym, subst, _∙_}
 use mathlib.Core.Logic.{inl, inr}
 use mathlib.Core.Bool.{Bool, true, false, cond}
 use mathlib.Core.List.{List, [], _∷_, map}
@@ -8,7 +8,7 @@ use native.Mathlib.Omega.{arith}
 use native.Mathlib.Nat.{le-refl, le-trans, add-zero, mul-le-mul}
 use borrow.Author.Tests.{ltb-true, ltb-false}
 use lib.Dec.{ltb}
-use lib.IntN.{ℤ, pos}
+use lib.IntN.{ℤ}
 use lib.ListN.{length, getD, length-map}
 use Rattle.lists.specs.Lists.{from, total, In}
 use Rattle.lists.specs.ListLaws.{at-numbers}
@@ -44,6 +44,12 @@ higher-le a b = go (ltb a b) refl
 -- in each channel
 abbrev AtMost : List ℕ → List ℕ → Type 0
 AtMost xs ys = (i : ℕ) → i < 4 → getD xs i 0 ≤ getD ys i 0
+
+most-same : (a : List ℕ) → AtMost a a
+most-same a i h = le-refl (getD a i 0)
+
+most-chain : (a b c : List ℕ) → AtMost a b → AtMost b c → AtMost a c
+most-chain a b c k l i h = le-trans (k i h) (l i h)
 
 lowest-le : (a b : List ℕ) → AtMost (lowest a b) a × AtMost (lowest a b) b
 unfolding lowest
@@ -82,20 +88,24 @@ module _ (f : ℕ → List ℕ) (x : ℕ) (xs : List ℕ) where
   pub span-first : Within (spanFrom f x xs) (f x)
   unfolding spanFrom
   span-first = record {
-    low = through-start lowest AtMost (λ a i h. le-refl _) (λ a b c k l i h. le-trans (k i h) (l i h)) lowest-le f (f x) xs;
-    high = through-start highest (λ a b. AtMost b a) (λ a i h. le-refl _) (λ a b c k l i h. le-trans (l i h) (k i h)) highest-le f (f x) xs;
+    low = through-start lowest AtMost most-same most-chain lowest-le f (f x) xs;
+    high = through-start highest (λ a b. AtMost b a) most-same (λ a b c k l. most-chain c b a l k) highest-le f (f x) xs;
   }
 
   pub span-in : (y : ℕ) → In y xs → Within (spanFrom f x xs) (f y)
   unfolding spanFrom
   span-in y j = record {
-    low = through-in lowest AtMost (λ a i h. le-refl _) (λ a b c k l i h. le-trans (k i h) (l i h)) lowest-le f (f x) xs y j;
-    high = through-in highest (λ a b. AtMost b a) (λ a i h. le-refl _) (λ a b c k l i h. le-trans (l i h) (k i h)) highest-le f (f x) xs y j;
+    low = through-in lowest AtMost most-same most-chain lowest-le f (f x) xs y j;
+    high = through-in highest (λ a b. AtMost b a) most-same (λ a b c k l. most-chain c b a l k) highest-le f (f x) xs y j;
   }
 
 -- ---- how far two spans lie apart
+-- |x - y|, squared
+abbrev square : ℕ → ℕ → ℕ
+square x y = ((x - y) + (y - x)) * ((x - y) + (y - x))
+
 -- two numbers, one of each range, lie as far apart at least
-gap-le : (low high low2 high2 x y : ℕ) → low ≤ x → x ≤ high → low2 ≤ y → y ≤ high2 → gap low high low2 high2 ≤ ((x - y) + (y - x)) * ((x - y) + (y - x))
+gap-le : (low high low2 high2 x y : ℕ) → low ≤ x → x ≤ high → low2 ≤ y → y ≤ high2 → gap low high low2 high2 ≤ square x y
 unfolding gap
 gap-le low high low2 high2 x y a b c d = mul-le-mul (go (ltb high low2) refl) (go (ltb high low2) refl)
   where
@@ -103,28 +113,23 @@ gap-le low high low2 high2 x y a b c d = mul-le-mul (go (ltb high low2) refl) (g
     go true e = omega arith
     go false e = omega arith
 
--- squares that are at most those of the raised counts of f and g add up to N at most
-squares-le : (G : ℕ → ℕ) (m a : ℕ) (f g : Frame) → length f ≡ length g
-    → ((i : ℕ) → i < m → G (a + i) ≤ ((getD (map raise f) i 0 - getD (map raise g) i 0) + (getD (map raise g) i 0 - getD (map raise f) i 0)) * ((getD (map raise f) i 0 - getD (map raise g) i 0) + (getD (map raise g) i 0 - getD (map raise f) i 0)))
-    → total G (from a m) ≤ squared f g
+later : (a i : ℕ) → suc a + i ≡ a + suc i
+later a i = omega arith
+
+-- numbers that are at most the squares of the raised counts of f and g add up to N at most
+squares-le : (G : ℕ → ℕ) (m a : ℕ) (f g : Frame) → length f ≡ length g → ((i : ℕ) → i < m → G (a + i) ≤ square (getD (map raise f) i 0) (getD (map raise g) i 0)) → total G (from a m) ≤ squared f g
 squares-le G zero a f g e h = omega arith
 squares-le G (suc m) a [] [] e h =
     let first : G a ≤ 0 = rw (sym (add-zero a)) (h 0 (omega arith)) in
-    let rest = squares-le G m (suc a) [] [] e (λ i l. rw (shift i) (h (suc i) (omega arith))) in
+    let rest = squares-le G m (suc a) [] [] e (λ i l. rw (later a i) (h (suc i) (omega arith))) in
     omega arith
-  where
-    shift : (i : ℕ) → suc a + i ≡ a + suc i
-    shift i = omega arith
 squares-le G (suc m) a [] (y ∷ g) e h = absurd (omega arith)
 squares-le G (suc m) a (x ∷ f) [] e h = absurd (omega arith)
 squares-le G (suc m) a (x ∷ f) (y ∷ g) e h =
-    let first : G a ≤ ((raise x - raise y) + (raise y - raise x)) * ((raise x - raise y) + (raise y - raise x)) = rw (sym (add-zero a)) (h 0 (omega arith)) in
-    let near : ((raise x - raise y) + (raise y - raise x)) * ((raise x - raise y) + (raise y - raise x)) ≤ apart x y * apart x y = mul-le-mul (raise-near x y) (raise-near x y) in
-    let rest = squares-le G m (suc a) f g (omega arith) (λ i l. rw (shift i) (h (suc i) (omega arith))) in
+    let first : G a ≤ square (raise x) (raise y) = rw (sym (add-zero a)) (h 0 (omega arith)) in
+    let near : square (raise x) (raise y) ≤ apart x y * apart x y = mul-le-mul (raise-near x y) (raise-near x y) in
+    let rest = squares-le G m (suc a) f g (omega arith) (λ i l. rw (later a i) (h (suc i) (omega arith))) in
     omega arith
-  where
-    shift : (i : ℕ) → suc a + i ≡ a + suc i
-    shift i = omega arith
 
 module _ {ps : List ℤ} {v : ValidParams} {n : ℕ} (r : Ready ps v n) where
   abbrev at : ℕ → Frame
@@ -144,7 +149,7 @@ module _ {ps : List ℤ} {v : ValidParams} {n : ℕ} (r : Ready ps v n) where
       squares-le (λ i. gap (getD (a .low) i 0) (getD (a .high) i 0) (getD (b .low) i 0) (getD (b .high) i 0)) 4 0 (at x) (at y) (long x hx ∙ sym (long y hy)) each
     where
       each : (i : ℕ) → i < 4 → gap (getD (a .low) (0 + i) 0) (getD (a .high) (0 + i) 0) (getD (b .low) (0 + i) 0) (getD (b .high) (0 + i) 0)
-          ≤ ((getD (map raise (at x)) i 0 - getD (map raise (at y)) i 0) + (getD (map raise (at y)) i 0 - getD (map raise (at x)) i 0)) * ((getD (map raise (at x)) i 0 - getD (map raise (at y)) i 0) + (getD (map raise (at y)) i 0 - getD (map raise (at x)) i 0))
+          ≤ square (getD (map raise (at x)) i 0) (getD (map raise (at y)) i 0)
       each i h =
           let z : 0 + i ≡ i = omega arith in
           rw (z, sym (raised-is x hx i), sym (raised-is y hy i))

@@ -1,7 +1,4 @@
 -- One of the cells has few frames, or their spans tell.
-use mathlib.Core.Path.{_≡_}
-use mathlib.Core.Bool.{true, false}
-use native.Mathlib.Omega.{arith}
 use borrow.Author.Needs.{needs}
 use Rattle.lists.specs.ListLaws.{true-T}
 use Rattle.core_cells.proofs.Spanning.{cell-order, first-few, second-few, by-spans, spans-tell}

@@ -1,6 +1,5 @@
 -- The span of the frames at the places of the cell.
 use native.Mathlib.Omega.{arith}
-use borrow.Author.Needs.{needs}
 use Rattle.core_cells.proofs.Rooted.{first-low}
 use Rattle.core_cells.proofs.Spanning.{first-place, cell-order, cell-look, cell-span, cell-counts}
 use Rattle.core_cells.proofs.spans.span_of.Statement.{statement}
