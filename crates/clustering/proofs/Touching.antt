@@ -1,15 +1,16 @@
 -- The core frames of a cell, one after the other, in the tree of another.
-use mathlib.Core.Path.{_≡_, refl, sym, ap, _∙_}
+use mathlib.Core.Path.{_≡_, refl, sym, ap, subst, _∙_}
 use mathlib.Core.Logic.{inl, inr}
 use mathlib.Core.Bool.{Bool, true, false}
 use mathlib.Core.List.{List, _∷_}
 use Prim.Native.Nat.{ℕ, _+_, _-_, _*_, _<_, _≤_}
 use native.Mathlib.Omega.{arith}
-use lib.Dec.{eqb}
+use lib.Dec.{T, eqb}
 use lib.IntN.{ℤ}
 use lib.ListN.{length, getD}
-use Rattle.lists.specs.Lists.{keep, any, Below, nonzero}
+use Rattle.lists.specs.Lists.{keep, any, In, Below, nonzero}
 use Rattle.lists.specs.Words.{part}
+use Rattle.lists.specs.ListLaws.{any-none}
 use Rattle.lists.specs.PartLaws.{part-first}
 use Rattle.hyperparams.specs.declared.ValidParams.{ValidParams}
 use Rattle.counting_tree.specs.Geometry.{Geometry}
@@ -81,6 +82,11 @@ module _ {g : Geometry} {w : List ℕ} {n end c d p : ℕ} (t : Touching g w n e
 
   pub touch-end : end ≤ p → false ≡ touches g (cellAt g c) (cellAt g d)
   touch-end h = let e : end - p ≡ 0 = omega arith in ap (λ (m : ℕ). any (hits g d) (keep (core g) (part w (3 * n + p) m))) (sym e) ∙ t .rest
+
+-- no core frame of c has a count
+pub touch-none : (g : Geometry) (c d : ℕ) → ((i : ℕ) → In i (coreMembers g (cellAt g c)) → false ≡ hits g d i) → false ≡ touches g (cellAt g c) (cellAt g d)
+unfolding touches
+touch-none g c d h = sym (any-none (hits g d) (coreMembers g (cellAt g c)) (λ i j t. subst T (sym (h i j)) t))
 
 -- at first
 module _ {ps : List ℤ} {v : ValidParams} {n : ℕ} (r : Ready ps v n) {k : ℕ} {w : List ℕ} (gr : Grown (geometryAt v n ps) k w) where

@@ -40,7 +40,7 @@ pub struct Progress {
     pub d: usize,
 }
 
-// Whether a core frame of cell c has a non-zero count in the tree of cell d.
+// Whether a core frame of cell c has a non-zero count in the tree of cell d. (No frame is asked where the spans of the cells tell that there is none.)
 pub fn touches_cell(
     points: &[i16],
     v: ValidParams,
@@ -53,6 +53,9 @@ pub fn touches_cell(
     requires { ⌜ Ready (now points) v n × Grown (geometryAt v n (now points)) k (now work) × (c < k) × (d < k) ⌝ }
     ensures { λ r. ⌜ (let g = geometryAt v n (now (points .entry)) in r ≡ touches g (cellAt g c) (cellAt g d)) ⌝ }
 {
+    if core_cells::spans::apart(points, v, n, k, work, c, d) {
+        return false;
+    }
     let first = core_cells::frames_first(v, n, k, work, d);
     let root = core_cells::root_unless(first, points, v, n, k, work, d);
     let end = cells_grid::cell_end(work, n, k, c);

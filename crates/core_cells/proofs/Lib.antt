@@ -5,3 +5,4 @@ pub mod Growing
 pub mod Looking
 pub mod Reaching
 pub mod Rooted
+pub mod Spanning

@@ -179,6 +179,15 @@ module _ {ps : List ℤ} {v : ValidParams} {n k : ℕ} {w : List ℕ} {q c : ℕ
     test-open z ef ee y i = one-root g L q (cellAt g c) Intersecting (tested z) y (subst (In y) (cell-places g L (C .cells) n e c (p .3) ef ee) i)
 
   -- ---- its frames
+  -- all at least as far as a number that is out of reach
+  pub none-in-reach : Counts (frame v (framesIn n (v .channels) ps) q) → (d : ℕ) → outOfReach (v .t) (v .s) d ≡ true
+      → ((x : ℕ) → In x (treeFrames (geometryAt v n ps) c) → Counts (frame v (framesIn n (v .channels) ps) x) × (d ≤ N v (framesIn n (v .channels) ps) q x))
+      → false ≡ nonzero (count (geometryAt v n ps) q (cellAt (geometryAt v n ps) c))
+  none-in-reach own d o far =
+      sym
+      (count-path g L q (cellAt g c)
+      ∙ any-none (Paths.reaches (g .box q) (g .levels) 0) (treeFrames g c) (λ x i t. no-path (p .0) (p .2) (omega (arith, frames-below g c x i, e)) own (far x i .0) d o (far x i .1) t))
+
   module _ {from end : ℕ} (ef : from ≡ getD w (2 * n + c) 0) (ee : end ≡ endIn w n k c) where
     pub can-look : CanLook w n from end
     can-look = record {
@@ -217,10 +226,7 @@ module _ {ps : List ℤ} {v : ValidParams} {n k : ℕ} {w : List ℕ} {q c : ℕ
           by-paths (sym (T-true (any path (coreAmong w n from end)) (any-in path (z .0) (coreAmong w n from end) (z .1) t)))
 
       pub out : v .t * v .t ≤ least → outOfReach (v .t) (v .s) least ≡ true → false ≡ nonzero (count (geometryAt v n ps) q (cellAt (geometryAt v n ps) c))
-      out l o = by-paths (sym (any-none path (coreAmong w n from end) apart))
+      out l o = none-in-reach own least o (λ x i. let j = subst (In x) (sym among) i in (all x (among-place w n from end x j), low x j))
         where
           low : (x : ℕ) → In x (coreAmong w n from end) → least ≤ N v fs q x
           low x i = omega (arith, el, least-le (v .t * v .t) (N v fs q) beyond (coreAmong w n from end) (omega (arith, el)) .1 x i)
-
-          apart : (x : ℕ) → In x (coreAmong w n from end) → T (path x) → ⊥
-          apart x i t = no-path (p .0) (p .2) (frame-low x i) own (all x (among-place w n from end x i)) least o (low x i) t

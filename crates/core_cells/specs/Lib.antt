@@ -5,3 +5,5 @@ pub mod NearestLaws
 pub mod RootBox
 pub mod RootBoxLaws
 pub mod Settling
+pub mod Spans
+pub mod SpansLaws
