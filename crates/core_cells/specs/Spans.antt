@@ -19,7 +19,7 @@ use Rattle.core_cells.specs.Nearest.{outOfReach}
 
 -- a cell with more frames than this has many
 abbrev pub many : ℕ
-many = 256
+many = 64
 
 -- the lower and the higher of two numbers
 unfoldable pub lower : ℕ → ℕ → ℕ

@@ -28,7 +28,7 @@ ghost use Rattle.core_cells.specs.Spans as Definitions;
 ghost use Rattle.core_cells.specs.Spans.{many, raisedAt, spanFrom, LowEnds, squareGap, cellSpan, apartBySpans};
 
 // A cell with more frames than this has its span asked.
-const MANY: usize = 256;
+const MANY: usize = 64;
 
 // The lowest and the highest raised count of some frames in each channel, with zeros in the channels that are not used.
 pub struct Span {
