@@ -13,11 +13,15 @@ use lib.ListN.{length, getD, take, drop, List·getD-eq-default}
 use lib.Seq.{getD-take, getD-drop}
 use lib.Ieee.{Float, binary64, ofInt}
 use mir.Syntax.{w16, w64}
-use mir.Val.{SFits, toZ, ofZ}
+use mir.Val.{Val, SFits, toZ, ofZ}
 use mir.Facts.{toZ-ofZ, sfits-widen}
+use denote.Array.{each}
+use denote.Shadow.{shadow}
+use borrow.Kind.Array.{eSInt}
 use Rattle.lists.specs.Words.{part}
 use Rattle.lists.specs.PartLaws.{part-length}
 use Rattle.counting_tree.specs.Frames.{apart}
+use Rattle.counting_tree.specs.Domain.{Count}
 
 -- a count, read back
 pub read : (c : ℤ) → mag c < 2 ^ 15 → toZ w16 (ofZ w16 c) ≡ c
@@ -146,3 +150,10 @@ pub take-map : {A B : Type 0} (f : A → B) (n : ℕ) (l : List A) → take n (m
 take-map f zero l = refl
 take-map f (suc n) [] = refl
 take-map f (suc n) (x ∷ l) = ap (λ (r : List _). f x ∷ r) (take-map f n l)
+
+-- ---- the elements of an array are counts, and past its end stands 0
+pub held-count : (xs : List ℤ) (us : List Val) → shadow (each ℤ (eSInt w16 .ty .own) xs us) → (k : ℕ) → Count (getD xs k (pos 0))
+held-count [] us p k = lit< tt
+held-count (x ∷ xs) [] p k = absurd p
+held-count (x ∷ xs) (u ∷ us) p zero = p .0 .1
+held-count (x ∷ xs) (u ∷ us) p (suc k) = held-count xs us (p .1) k

@@ -5,6 +5,7 @@ pub mod Counts
 pub mod Same
 pub mod Lent
 pub mod Settled
+pub mod Clear
 pub mod Squares
 pub mod Near
 pub mod Walk

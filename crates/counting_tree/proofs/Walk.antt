@@ -14,10 +14,9 @@ use Rattle.counting_tree.specs.declared.IntersectionType.the-variants.{D
 use Rattle.counting_tree.specs.Frames.{framesIn}
 use Rattle.counting_tree.specs.Grid.{half, sideAt}
 use Rattle.counting_tree.specs.Geometry.{boxAt}
-use Rattle.counting_tree.specs.Radius.{Side}
 use Rattle.counting_tree.specs.Paths.{reaches, path-disjoint, path-covered}
 use Rattle.counting_tree.specs.Ready.{Ready, geometryAt, at-levels}
-use Rattle.counting_tree.specs.Indexes.{ready-side, box-level, next-side}
+use Rattle.counting_tree.specs.Indexes.{LevelSide, box-level, next-side}
 
 -- ---- a path whose first box is Intersecting
 module _ (box : ℕ → ℕ → IntersectionType) (x : ℕ) where
@@ -57,8 +56,8 @@ module _ {ps : List ℤ} {v : ValidParams} {n q x : ℕ} where
       less s = omega arith
 
   module _ (r : Ready ps v n) {y : Float} {left : ℕ} (W : Walking ps v n q x y left) where
-    pub walk-side : Side y
-    walk-side = ready-side r (W .level) y (W .side) (omega (arith, W .depth))
+    pub walk-side : LevelSide v y
+    walk-side = record { level = W .level; depth = omega (arith, W .depth); is = W .side }
 
     -- by its first box
     module _ {b : IntersectionType} (e : b ≡ boxAt v (framesIn n (v .channels) ps) y q x) where

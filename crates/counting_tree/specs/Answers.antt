@@ -94,6 +94,12 @@ says-covered true b c d h k = absurd h
 says-covered false true c d h k = refl
 says-covered false false c d h k = absurd k
 
+pub says-crossing : (a b c d : Bool) → T (not a) → (T b → ⊥) → T c → answer a b c d ≡ Intersecting
+says-crossing true b c d h f k = absurd h
+says-crossing false true c d h f k = absurd (f tt)
+says-crossing false false true d h f k = refl
+says-crossing false false false d h f k = absurd k
+
 -- the box of level l in which the frame ys lies, against the frame qs
 module _ {d : ℕ} {t : Float} {τ : ℕ} (S : Scale d t τ) (l : ℕ) (ll : l ≤ 11) (qs ys : Frame) (c : Pair qs ys) (lq : length qs ≡ d) (ly : length ys ≡ d) (ext : Float) (E : Extended ext) where
   abbrev side : Float

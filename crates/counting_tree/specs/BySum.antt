@@ -76,7 +76,7 @@ module _ {d : ℕ} {t : Float} {τ : ℕ} (S : Scale d t τ) (qs cs : List Float
   pub sum-is : Total s (squares (diffs qs cs))
   sum-is = total near (le-trans (le-of-eq channels) (S .most))
 
-  rooted : Rooted s (distance qs cs)
+  pub rooted : Rooted s (distance qs cs)
   unfolding distance
   rooted = root-near s (sum-is .good) (sum-is .sign-is) (le-trans (sum-is .small) (mul-le-mul-right unit (lit≤ tt)))
 

@@ -233,7 +233,7 @@ abbrev pub same : ℕ → List Float → List ℕ
 same n [] = []
 same n (q ∷ qs) = n ∷ same n qs
 
-close-three : (e g u t : ℕ) → u ≡ 2 ^ 36 * t → 2 ^ 60 ≤ t → g ≤ 2 ^ 18 * u → Close e g 1 → (e ≤ g + 3 * t) × (g ≤ e + 3 * t)
+pub close-three : (e g u t : ℕ) → u ≡ 2 ^ 36 * t → 2 ^ 60 ≤ t → g ≤ 2 ^ 18 * u → Close e g 1 → (e ≤ g + 3 * t) × (g ≤ e + 3 * t)
 close-three e g u t E l b c =
     let m = small g u t E l b in
     let r = close-abs e g 1 (3 * t) m c in

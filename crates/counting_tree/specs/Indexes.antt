@@ -61,6 +61,15 @@ module _ {ps : List ℤ} {v : ValidParams} {n : ℕ} (r : Ready ps v n) (l : ℕ
       → t ≡ sameInts (take (v .channels) at) (indexes x (frame v (framesIn n (v .channels) ps) j)) → t ≡ geometryAt v n ps .same l i j
   same-indexes i j h at f t g = has-same r x i j h at f t g ∙ ap (λ (s : ℕ → ℕ → Bool). s i j) same-level
 
+-- a side of some level of the trees
+pub record LevelSide (v : ValidParams) (x : Float) : Type 0 where
+  pub level : ℕ
+  pub depth : level ≤ levels (v .s)
+  pub is : x ≡ sideAt (v .channels) (v .tolerance) level
+
+pub some-side : {ps : List ℤ} {v : ValidParams} {n : ℕ} → Ready ps v n → {x : Float} → LevelSide v x → Side x
+some-side r {x} L = ready-side r (L .level) x (L .is) (L .depth)
+
 -- the next level's side is half as long
 pub next-side : (d : ℕ) (t : Float) (l : ℕ) (x y : Float) → x ≡ sideAt d t l → y ≡ half x → y ≡ sideAt d t (l + 1)
 unfolding sideAt

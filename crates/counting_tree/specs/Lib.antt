@@ -28,5 +28,7 @@ pub mod Reach
 pub mod BySum
 pub mod Settled
 pub mod SettledLaws
+pub mod Clear
+pub mod ClearLaws
 pub mod NearBox
 pub mod NearBoxLaws

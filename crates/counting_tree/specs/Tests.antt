@@ -117,6 +117,12 @@ module _ (D h : Float) (s : Sizes D h) where
         third : (a b c d t : ℕ) → a ≡ t → b ≡ 0 → c ≤ t + d → c + b ≤ a + d
         third a b c d t e f g = omega arith
 
+    -- what is not above t is at most t
+    pub sub-not-above : T (not (lt t (sub binary64 D h))) → T (le (sub binary64 D h) t)
+    sub-not-above n =
+        let z = sub binary64 D h in
+        subst T (sym (le-is z t (sub-approx .good) g)) (le→leb (plus z + minus t) (plus t + minus z) (nltb→le (plus t + minus z) (plus z + minus t) (subst (λ (w : Bool). T (not w)) (lt-is t z g (sub-approx .good)) n)))
+
     pub not-lt-sub : T (not (lt t (sub binary64 D h))) → mag D ≤ mag t + mag h + 32 * tiny
     not-lt-sub n =
         let z = sub binary64 D h in
@@ -142,7 +148,7 @@ module _ (D h : Float) (s : Sizes D h) where
         third : (a b c d t : ℕ) → a ≡ t → b ≡ 0 → c ≤ t + d → c + b ≤ a + d
         third a b c d t e f g = omega arith
 
-    le-add : T (le (add binary64 D h) t) → mag D + mag h ≤ mag t + 32 * tiny
+    pub le-add : T (le (add binary64 D h) t) → mag D + mag h ≤ mag t + 32 * tiny
     le-add n =
         let z = add binary64 D h in
         let q : plus z + minus t ≤ plus t + minus z = leb→le (plus z + minus t) (plus t + minus z) (subst T (le-is z t (add-approx .good) g) n) in

@@ -11,12 +11,14 @@ ghost use Rattle.counting_tree.specs.Frames as Frames;
 ghost use Rattle.counting_tree.specs.Frames.{framesIn, apart};
 ghost use Rattle.counting_tree.specs.Box.{sumFrom};
 ghost use Rattle.counting_tree.specs.Settled.{settledBy};
+ghost use Rattle.counting_tree.specs.Clear.{clearlyApart, clearlyCrossing};
 ghost use Rattle.counting_tree.specs.NearBox.{reach, closeTo, nearBox};
 ghost use Rattle.hyperparams.specs.Params.{float};
 ghost use Rattle.counting_tree.specs.Grid.{centre, indexes};
 ghost use Rattle.counting_tree.specs.Geometry.{frame, N, sameInts, boxAt};
 ghost use Rattle.counting_tree.specs.Arrays.{placed};
 ghost use Rattle.counting_tree.specs.Radius.{Side};
+ghost use Rattle.counting_tree.specs.Indexes.{LevelSide};
 ghost use Rattle.counting_tree.specs.Domain.{Counts};
 ghost use Rattle.counting_tree.specs.Ready.{Ready, geometryAt};
 use super::boxes::box_of;
@@ -255,7 +257,24 @@ pub fn within(points: &[i16], v: ValidParams, n: usize, i: usize, j: usize) -> b
     square_apart(points, v, n, i, j) <= v.t * v.t
 }
 
-// How the box of a side in which frame x lies stands to frame q.
+// Whether the sum of squares to the centre of a box is over (t + h)² by 1, with h half the diagonal: the distance less h is then over t, and no root is needed to tell.
+fn clearly_apart(sum: f64, h: f64, t: f64) -> bool
+    ensures { λ r. ⌜ r ≡ clearlyApart t h sum ⌝ }
+{
+    let far = t + h;
+    far * far + 1.0 < sum
+}
+
+// Whether it is under (t + e)² by 1, with e half the side, and over (appx − h)² by 1: the distance less e is then at most t, and with h it is over appx.
+fn clearly_crossing(sum: f64, h: f64, e: f64, t: f64, appx: f64) -> bool
+    ensures { λ r. ⌜ r ≡ clearlyCrossing t appx h e sum ⌝ }
+{
+    let near = t + e;
+    let inner = appx - h;
+    sum + 1.0 < near * near && inner * inner + 1.0 < sum
+}
+
+// How the box of a level's side in which frame x lies stands to frame q. The root is taken only where the sum of squares is near a limit.
 pub fn classify(
     points: &[i16],
     v: ValidParams,
@@ -264,13 +283,23 @@ pub fn classify(
     side: f64,
     x: usize,
 ) -> IntersectionType
-    requires { ⌜ Ready (now points) v n × Side side × (q < n) × (x < n) ⌝ }
+    requires { ⌜ Ready (now points) v n × LevelSide v side × (q < n) × (x < n) ⌝ }
     ensures { λ r. ⌜ r ≡ boxAt v (framesIn n (v .channels) (now (points .entry))) side q x ⌝ }
 {
     let a = frame_at(points, v.channels, q);
     let b = frame_at(points, v.channels, x);
     let place = box_of(b, side, v.channels);
-    determine_intersection(place, floats(a), v.channels, v.tolerance, v.appx_tolerance)
+    let centre = place.centre;
+    let from = floats(a);
+    let sum = square_sum(from, centre, v.channels);
+    let h = half_side(side * ieee754::root_of_small(v.channels));
+    if clearly_apart(sum, h, v.tolerance) {
+        return IntersectionType::Disjoint;
+    }
+    if clearly_crossing(sum, h, half_side(side), v.tolerance, v.appx_tolerance) {
+        return IntersectionType::Intersecting;
+    }
+    determine_intersection(place, from, v.channels, v.tolerance, v.appx_tolerance)
 }
 
 // What whole numbers tell of the root box `place` against frame q, with no root: Disjoint or FullyCovered where they settle it, else Intersecting, which says nothing.

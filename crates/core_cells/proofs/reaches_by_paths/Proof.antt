@@ -1,7 +1,6 @@
 -- `reaches_by_paths` meets its contract: what the root box says, or else the paths.
 use borrow.Author.Needs.{needs}
 use native.Mathlib.Omega.{arith}
-use Rattle.counting_tree.specs.Indexes.{ready-side}
 use Rattle.core_cells.proofs.Reaching.{settled-is, slot, cells-fit, treeless, test-tells, test-open, can-look, by-paths}
 use Rattle.core_cells.proofs.Rooted.{first-low}
 use Rattle.core_cells.proofs.reaches_by_paths.Statement.{statement}
@@ -23,7 +22,7 @@ word-requires : tie.Need-word-requires
 word-requires c κs = omega (arith, slot (c .before .before .before .before .pre))
 
 classify-requires : tie.Need-classify-requires
-classify-requires c κs = (c .before .before .before .before .before .pre .0, ready-side (c .before .before .before .before .before .pre .0) 0 (c .before .base-side .result) (c .before .base-side .ensures) (omega arith), c .before .before .before .before .before .pre .2, first-low (c .before .before .before .before .before .pre .0) (c .before .before .before .before .before .pre .1) (c .before .before .before .before .before .pre .3) (c .word .ensures))
+classify-requires c κs = (c .before .before .before .before .before .pre .0, record { level = 0; depth = omega arith; is = c .before .base-side .ensures }, c .before .before .before .before .before .pre .2, first-low (c .before .before .before .before .before .pre .0) (c .before .before .before .before .before .pre .1) (c .before .before .before .before .before .pre .3) (c .word .ensures))
 
 enum-told : tie.Need-enum-told
 enum-told c = search needs

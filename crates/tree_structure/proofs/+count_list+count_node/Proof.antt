@@ -8,7 +8,7 @@ use native.Mathlib.Nat.{pos-of-ne-zero}
 use denote.Ref.{now}
 use Rattle.counting_tree.specs.Tree.{firstOf, counted}
 use Rattle.counting_tree.specs.Ready.{geometryAt}
-use Rattle.counting_tree.specs.Indexes.{ready-side, box-level, next-side}
+use Rattle.counting_tree.specs.Indexes.{box-level, next-side}
 use Rattle.tree_structure.proofs.Counting.{tree-room, tree-count, tree-first, tree-past, tree-ahead, tree-below, tree-children, tree-box, split, none, told, pass, stay, on-disjoint, on-covered, on-last, on-inner}
 use Rattle.tree_structure.proofs.Levels.{few-levels}
 use borrow.Fn.Kinds.{In}
@@ -105,7 +105,7 @@ count-node-word-requires-2 t c κs = omega (arith, tree-room (c .before .before 
 count-node-classify-requires : (t : ℕ) → count-node-lts.Need-classify-requires (node-calls t) (count-node-at t) count-node.Post
 count-node-classify-requires t c κs =
     let p = c .before .before .before .pre .1 .0 in
-    (p .0, ready-side (p .0) (c .before .before .before .args .level) (c .before .before .before .args .side) (p .3) (omega (arith, p .2)), p .1, omega (arith, tree-below (c .before .before .before .pre .1 .1 .1), c .word2 .ensures))
+    (p .0, record { level = c .before .before .before .args .level; depth = omega (arith, p .2); is = p .3 }, p .1, omega (arith, tree-below (c .before .before .before .pre .1 .1 .1), c .word2 .ensures))
 
 count-node-enum-told : (t : ℕ) → count-node-lts.Need-enum-told (node-calls t) (count-node-at t) count-node.Post
 count-node-enum-told t c = search needs
