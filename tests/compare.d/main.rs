@@ -317,6 +317,11 @@ fn main() {
         let c = sets::large(&mut rng);
         run.try_call(&c);
     }
+    run.begin("clusters that nearly touch");
+    for _ in 0..(400 / part).max(1) {
+        let c = sets::clusters(&mut rng);
+        run.try_call(&c);
+    }
     // the function for the work words, on the whole domain and past its ends
     let past = [4097, 5000, 65536, 1 << 32, usize::MAX];
     let powers = [11, 12, 64, 255, 1 << 32, usize::MAX];

@@ -512,6 +512,29 @@ pub fn large(rng: &mut Random) -> Call {
     call(rng, channels, m, t, s, &frames)
 }
 
+/// Two to eight clusters of 20 to 200 frames in a row, each about t to 1.2 times the far reach from the next: boxes, paths, trees and spans of cells that nearly touch.
+pub fn clusters(rng: &mut Random) -> Call {
+    let (channels, t, s) = (1 + rng.below(4), rng.range(8, 3000), rng.below(11));
+    let half = t as f64 / root(channels) / 2.0;
+    let slack = 0.5f64.powi(s as i32);
+    let (thick, across) = (rng.pick(&[1.0, 0.1 * half, 0.5 * half]), rng.pick(&[1.0, 0.1 * half, 0.9 * half]));
+    let mut frames: Vec<Frame> = Vec::new();
+    let mut from = rng.between(-half, half);
+    for _ in 0..2 + rng.below(7) {
+        for _ in 0..20 + rng.below(181) {
+            frames.push(
+                (0..channels)
+                    .map(|k| clip(if k == 0 { from + rng.between(0.0, thick) } else { rng.between(-across, across) }))
+                    .collect(),
+            );
+        }
+        from += thick + t as f64 * (1.0 + rng.between(-0.1, 1.2) * slack);
+    }
+    rng.shuffle(&mut frames);
+    let m = rng.pick(&[2, 4, 30]);
+    call(rng, channels, m, t, s, &frames)
+}
+
 /// Settings and lengths of every sort, refused ones most often, several at once.
 pub fn table(rng: &mut Random) -> Call {
     let s = rng.below(11);
