@@ -1,13 +1,13 @@
 -- What the sum of squares tells of the box of one frame against the other, from the frames in arrays.
 use mathlib.Core.Path.{_≡_, sym, ap, ap₂, subst, _∙_}
-use mathlib.Core.Bool.{Bool, true}
+use mathlib.Core.Bool.{Bool, true, _&&_}
 use mathlib.Core.List.{List, map}
 use Prim.Native.Nat.{ℕ, _*_, _<_}
 use lib.IntN.{ℤ, pos}
 use lib.Dec.{T}
 use lib.ListN.{getD, take}
 use lib.Seq.{getD-take}
-use lib.Ieee.{Float, binary64, mul, ofInt}
+use lib.Ieee.{Float, binary64, add, sub, mul, lt, ofInt}
 use Rattle.lists.specs.Words.{part}
 use Rattle.ieee754.specs.Root.{root}
 use Rattle.hyperparams.specs.declared.ValidParams.{ValidParams}
@@ -28,6 +28,17 @@ use Rattle.counting_tree.specs.Clear.{clearlyApart, clearlyCrossing}
 use Rattle.counting_tree.specs.ClearLaws.{box-apart, box-crossing}
 use Rattle.counting_tree.proofs.Answer.{radius-is}
 use Rattle.counting_tree.proofs.Lent.{frame-is, floats-are, centre-is}
+
+-- by the outcomes of the comparisons
+module _ (t h sum : Float) where
+  pub apart-is : (b : Bool) → lt (add binary64 (mul binary64 (add binary64 t h) (add binary64 t h)) (float 1)) sum ≡ b → b ≡ clearlyApart t h sum
+  unfolding clearlyApart
+  apart-is b p = sym p
+
+  pub crossing-is : (appx e : Float) (b c : Bool) → lt (add binary64 sum (float 1)) (mul binary64 (add binary64 t e) (add binary64 t e)) ≡ b
+      → lt (add binary64 (mul binary64 (sub binary64 appx h) (sub binary64 appx h)) (float 1)) sum ≡ c → (b && c) ≡ clearlyCrossing t appx h e sum
+  unfolding clearlyCrossing
+  crossing-is appx e b c p q = ap₂ _&&_ (sym p) (sym q)
 
 module _ {ps : List ℤ} {v : ValidParams} {n : ℕ} (r : Ready ps v n) where
   abbrev fs : List Frame
