@@ -236,16 +236,16 @@ fn asks_back(
     if !core_cells::spans::has_many(work, n, k, c) {
         return false;
     }
-    let i = lists::word(work, n + d);
-    if !cells_grid::is_core(work, n, i) {
+    let first = lists::word(work, n + d);
+    if !cells_grid::is_core(work, n, first) {
         return false;
     }
     let root = core_cells::root_unless(false, points, v, n, k, work, c);
-    core_cells::reaches(points, v, n, k, work, i, c, false, root)
+    core_cells::reaches(points, v, n, k, work, first, c, false, root)
 }
 
-// Whether the pair of c and d is linked, as far as it has to be told here: the pair of d and c is taken too.
-// (Where c has many frames one frame of d is asked before all of them: often it has a count, though they have none.)
+// Whether the pair of c and d is told to be linked: where c has many frames by the first frame of d, else since c touches d.
+// (All frames of c may have no count in the tree of d though that frame has one in c's: then d and c are linked, and that pair is taken too.)
 fn are_linked(
     points: &[i16],
     v: ValidParams,
