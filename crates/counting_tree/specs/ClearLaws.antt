@@ -1,10 +1,10 @@
 -- Where the sum of squares is clear of a limit by 1, the box test says what the sum does, at every level: 1 in the square is more than the roundings of the root and of the limits come to.
-use mathlib.Core.Path.{_≡_, sym, ap, _∙_, subst}
+use mathlib.Core.Path.{_≡_, sym, _∙_, subst}
 use mathlib.Core.Logic.{_⊎_, inl, inr}
 use mathlib.Core.Bool.{Bool, false, not}
 use mathlib.Core.List.{List, [], _∷_}
 use Prim.Native.Nat.{ℕ, _+_, _-_, _*_, _^_, _≤_, _<_}
-use native.Mathlib.Nat.{le-trans, le-of-eq, le-of-lt, le-add-right, mul-le-mul-right, mul-pos, one-mul, le-dest, le-of-mul-le-mul-left, le-of-mul-le-mul-right}
+use native.Mathlib.Nat.{le-trans, le-of-eq, le-of-lt, le-add-right, mul-le-mul-right, one-mul, le-dest, le-of-mul-le-mul-left, le-of-mul-le-mul-right}
 use native.Mathlib.Omega.{arith}
 use lib.IntN.{ℤ, pos}
 use lib.Dec.{T, ltb→lt, lit<, lit≤}

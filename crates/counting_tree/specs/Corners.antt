@@ -251,6 +251,7 @@ unfolding farthest
 nearer qs k ext ls x l n m t = from-nearer (float 0) ext qs ls (ofInt-pos 0 (lit≤ tt) .good) x l n t .1 k m
 
 module _ (H : ℕ) (e ext : Float) (i : Is e false H) (h : H ≤ 2 ^ 15 * unit) (g : Good ext) (s : sign ext ≡ false) (b : mag ext ≤ 2 ^ 17 * unit) {qs xs cs : List Float} (a : Around H qs xs cs) (l : length qs ≤ 4) where
+  -- where the farthest corner is nearer than ext, what a corner lies beyond is no longer than ext, but for the roundings
   pub corners-within : {ws : List ℕ} → Beyond e qs cs ws → T (lt (farthest qs (corners cs e)) ext) → squares ws ≤ (mag ext + 600 * tiny) * (mag ext + 600 * tiny)
   corners-within r t =
       let k = r .corner in

@@ -4,7 +4,7 @@ use mathlib.Core.Logic.{_⊎_, inl, inr}
 use mathlib.Core.Bool.{false}
 use mathlib.Core.List.{List, [], _∷_}
 use Prim.Native.Nat.{ℕ, _+_, _*_, _^_, _≤_, _<_}
-use native.Mathlib.Nat.{le-trans, le-of-lt, le-dest, not-le-of-lt}
+use native.Mathlib.Nat.{le-trans, le-of-lt, le-dest}
 use native.Mathlib.Omega.{arith, by-contra}
 use lib.Dec.{T}
 use lib.ListN.{length}
@@ -43,7 +43,7 @@ long-grown M H u us h =
     let m : M ≤ u + total us = sq-le-back M (u + total us) (le-trans h (squares-total (u ∷ us))) in
     belowℕ (M ∷ H ∷ u ∷ squares us ∷ total us ∷ squares (grown H us) ∷ []) (slackℕ h ⊞ num (2 * H) ⊠ slackℕ m ⊞ slackℕ (squares-grown H us)) (search poly depth 30) done
 
--- ---- one channel: q = a - b, the centre e - f at the gap m, the ends g - h and g' - h'
+-- ---- one channel: q = a - b, the centre e - f at the gap m, the ends g - h and g' - h'; the end away from q is beyond the point that lies just H from the centre
 outward : (a b e f g h g' h' m n n' H t : ℕ)
     → (a + f ≡ b + e + m) ⊎ (b + e ≡ a + f + m) → (a + h ≡ b + g + n) ⊎ (b + g ≡ a + h + n) → (a + h' ≡ b + g' + n') ⊎ (b + g' ≡ a + h' + n')
     → g + (f + H) ≤ e + h + 3 * t → e + H + h' ≤ g' + f + 3 * t → (m + H ≤ n + 9 * t) ⊎ (m + H ≤ n' + 9 * t)

@@ -274,14 +274,14 @@ fn clearly_between(sum: f64, a: f64, b: f64, t: f64, appx: f64) -> bool
     sum + 1.0 < above * above && below * below + 1.0 < sum
 }
 
-// Whether the sum tells that the box is cut, with e half the side: the distance less e is at most t, and with h over appx; or it is at most t less h, and with e over appx, and so is the farthest corner, with no need to look at the corners.
+// Whether it tells that the box is cut, with e half the side: the distance less e is at most t, and with h it is over appx; or less h it is at most t, and with e it is over appx, where the farthest corner is too, and no corner has to be looked at.
 fn clearly_crossing(sum: f64, h: f64, e: f64, t: f64, appx: f64) -> bool
     ensures { λ r. ⌜ r ≡ clearlyCrossing t appx h e sum ⌝ }
 {
     clearly_between(sum, e, h, t, appx) || clearly_between(sum, h, e, t, appx)
 }
 
-// How the box of a level's side in which frame x lies stands to frame q. The root is taken only where the sum of squares is near a limit.
+// How the box of a level's side in which frame x lies stands to frame q. The root is taken, and corners are looked at, only where the sum of squares tells nothing.
 pub fn classify(
     points: &[i16],
     v: ValidParams,
