@@ -24,21 +24,21 @@ use Rattle.counting_tree.specs.Radius.{radius}
 use Rattle.counting_tree.specs.Domain.{Count, Counts}
 use Rattle.counting_tree.specs.Ready.{Ready}
 use Rattle.counting_tree.specs.Indexes.{LevelSide}
-use Rattle.counting_tree.specs.Clear.{clearlyApart, clearlyCrossing}
+use Rattle.counting_tree.specs.Clear.{clearlyApart, clearlyBetween, clearlyCrossing}
 use Rattle.counting_tree.specs.ClearLaws.{box-apart, box-crossing}
 use Rattle.counting_tree.proofs.Answer.{radius-is}
 use Rattle.counting_tree.proofs.Lent.{frame-is, floats-are, centre-is}
 
 -- by the outcomes of the comparisons
-module _ (t h sum : Float) where
-  pub apart-is : (b : Bool) → lt (add binary64 (mul binary64 (add binary64 t h) (add binary64 t h)) (float 1)) sum ≡ b → b ≡ clearlyApart t h sum
+module _ (t sum : Float) where
+  pub apart-is : (h : Float) (b : Bool) → lt (add binary64 (mul binary64 (add binary64 t h) (add binary64 t h)) (float 1)) sum ≡ b → b ≡ clearlyApart t h sum
   unfolding clearlyApart
-  apart-is b p = sym p
+  apart-is h b p = sym p
 
-  pub crossing-is : (appx e : Float) (b c : Bool) → lt (add binary64 sum (float 1)) (mul binary64 (add binary64 t e) (add binary64 t e)) ≡ b
-      → lt (add binary64 (mul binary64 (sub binary64 appx h) (sub binary64 appx h)) (float 1)) sum ≡ c → (b && c) ≡ clearlyCrossing t appx h e sum
-  unfolding clearlyCrossing
-  crossing-is appx e b c p q = ap₂ _&&_ (sym p) (sym q)
+  pub between-is : (appx a b : Float) (u w : Bool) → lt (add binary64 sum (float 1)) (mul binary64 (add binary64 t a) (add binary64 t a)) ≡ u
+      → lt (add binary64 (mul binary64 (sub binary64 appx b) (sub binary64 appx b)) (float 1)) sum ≡ w → (u && w) ≡ clearlyBetween t appx a b sum
+  unfolding clearlyBetween
+  between-is appx a b u w p q = ap₂ _&&_ (sym p) (sym q)
 
 module _ {ps : List ℤ} {v : ValidParams} {n : ℕ} (r : Ready ps v n) where
   abbrev fs : List Frame

@@ -1,5 +1,6 @@
 -- What each answer of the box test says of a frame in the box, and that the last level never answers Intersecting.
 use mathlib.Core.Path.{_≡_, refl, sym, _∙_}
+use mathlib.Core.Logic.{_⊎_, inl, inr}
 use mathlib.Core.Bool.{Bool, true, false, not}
 use mathlib.Core.List.{List}
 use Prim.Native.Nat.{ℕ, _+_, _*_, _^_, _≤_, _<_}
@@ -94,11 +95,12 @@ says-covered true b c d h k = absurd h
 says-covered false true c d h k = refl
 says-covered false false c d h k = absurd k
 
-pub says-crossing : (a b c d : Bool) → T (not a) → (T b → ⊥) → T c → answer a b c d ≡ Intersecting
+pub says-crossing : (a b c d : Bool) → T (not a) → (T b → ⊥) → T c ⊎ (T d → ⊥) → answer a b c d ≡ Intersecting
 says-crossing true b c d h f k = absurd h
 says-crossing false true c d h f k = absurd (f tt)
 says-crossing false false true d h f k = refl
-says-crossing false false false d h f k = absurd k
+says-crossing false false false true h f k = elim k [ inl g ↦ absurd g | inr g ↦ absurd (g tt) ]
+says-crossing false false false false h f k = refl
 
 -- the box of level l in which the frame ys lies, against the frame qs
 module _ {d : ℕ} {t : Float} {τ : ℕ} (S : Scale d t τ) (l : ℕ) (ll : l ≤ 11) (qs ys : Frame) (c : Pair qs ys) (lq : length qs ≡ d) (ly : length ys ≡ d) (ext : Float) (E : Extended ext) where

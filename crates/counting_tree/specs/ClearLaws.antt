@@ -1,16 +1,17 @@
 -- Where the sum of squares is clear of a limit by 1, the box test says what the sum does, at every level: 1 in the square is more than the roundings of the root and of the limits come to.
-use mathlib.Core.Path.{_≡_, sym, ap, _∙_, subst}
+use mathlib.Core.Path.{_≡_, sym, _∙_, subst}
+use mathlib.Core.Logic.{_⊎_, inl, inr}
 use mathlib.Core.Bool.{Bool, false, not}
 use mathlib.Core.List.{List, [], _∷_}
 use Prim.Native.Nat.{ℕ, _+_, _-_, _*_, _^_, _≤_, _<_}
-use native.Mathlib.Nat.{le-trans, le-of-eq, le-of-lt, mul-le-mul-right, mul-pos, one-mul, le-dest, le-of-mul-le-mul-left, le-of-mul-le-mul-right}
+use native.Mathlib.Nat.{le-trans, le-of-eq, le-of-lt, le-add-right, mul-le-mul-right, one-mul, le-dest, le-of-mul-le-mul-left, le-of-mul-le-mul-right}
 use native.Mathlib.Omega.{arith}
 use lib.IntN.{ℤ, pos}
 use lib.Dec.{T, ltb→lt, lit<, lit≤}
 use lib.Pow.{pow-pos}
 use lib.ListN.{length}
 use lib.Ieee.{Float, binary64, add, sub, mul, lt, le}
-use Rattle.lists.specs.ListLaws.{and-left, and-right}
+use Rattle.lists.specs.ListLaws.{and-left, and-right, or-cases}
 use Rattle.ring.specs.Ring.{poly, done, _⊖_}
 use Rattle.ring.specs.Order.{belowℕ, num, slackℕ, _⊞_, _⊠_, nil, diffℕ, _⊕_, _⊙_}
 use Rattle.ring.specs.Nat.{sq-mono, sq-le-back}
@@ -24,7 +25,7 @@ use Rattle.hyperparams.specs.declared.ValidParams.{ValidParams}
 use Rattle.counting_tree.specs.declared.IntersectionType.the-variants.{Disjoint, Intersecting}
 use Rattle.counting_tree.specs.Frames.{floats, framesIn}
 use Rattle.counting_tree.specs.FramesIn.{frame-length}
-use Rattle.counting_tree.specs.Box.{sumFrom, distance}
+use Rattle.counting_tree.specs.Box.{sumFrom, distance, corners, farthest}
 use Rattle.counting_tree.specs.Distance.{Near, sum-close, close-three, root-up}
 use Rattle.counting_tree.specs.Radius.{unit-large, Side, radius, radius-is}
 use Rattle.counting_tree.specs.InBox.{side-half, half-side}
@@ -32,23 +33,25 @@ use Rattle.counting_tree.specs.Grid.{half, sideAt, centres}
 use Rattle.counting_tree.specs.Geometry.{frame, boxAt}
 use Rattle.counting_tree.specs.Sides.{Scale, tolerance-low, tolerance-high, tolerance-rep, level-side, radius-high}
 use Rattle.counting_tree.specs.Tests.{Sizes, sizes, Extended, sub-le-test, sub-not-above, not-lt-sub, le-add}
-use Rattle.counting_tree.specs.WholeFrames.{near-centre, length-floats}
+use Rattle.counting_tree.specs.Corners.{Around}
+use Rattle.counting_tree.specs.Outward.{corners-outward}
+use Rattle.counting_tree.specs.WholeFrames.{Pair, half-le, around, near-centre, length-floats}
 use Rattle.counting_tree.specs.Answers.{answer, apart-test, inside-test, near-test, corner-test, intersection-is, says-disjoint, says-crossing}
 use Rattle.counting_tree.specs.Domain.{Counts}
 use Rattle.counting_tree.specs.Sound.{pair}
 use Rattle.counting_tree.specs.Ready.{Ready}
 use Rattle.counting_tree.specs.Indexes.{LevelSide}
 use Rattle.counting_tree.specs.BySum.{sum-is, rooted}
-use Rattle.counting_tree.specs.Clear.{clearlyApart, clearlyCrossing}
+use Rattle.counting_tree.specs.Clear.{clearlyApart, clearlyBetween, clearlyCrossing}
 
 -- ---- numbers: F a limit, P its square, Q = P + 1, M the sum; u = 1, y = 2 ^ -36
--- F² + 1 < M: F + 2 ^ -27 is below the root of M
+-- F² + 1 < M: F + 2 ^ -24 is below the root of M
 over : (F P Q M u y : ℕ) → u ≡ 2 ^ 36 * y → F ≤ 2 ^ 19 * u → 2 ^ 14 * (F * F) ≤ 2 ^ 14 * (P * u) + u * u → 2 ^ 13 * (P + u) ≤ 2 ^ 13 * Q + u → Q ≤ M
-    → (F + 512 * y) * (F + 512 * y) ≤ M * u
+    → (F + 4096 * y) * (F + 4096 * y) ≤ M * u
 over F P Q M u y e a b c d = le-of-mul-le-mul-left {k = 2 ^ 14}
     (belowℕ (F ∷ P ∷ Q ∷ M ∷ u ∷ y ∷ [])
-    (num (2 ^ 14 * u) ⊠ slackℕ d ⊞ num (2 * u) ⊠ slackℕ c ⊞ slackℕ b ⊞ num (2 ^ 24 * y) ⊠ slackℕ a ⊞ num (((2 ^ 14 - 3) * 2 ^ 72 - 2 ^ 79 - 2 ^ 32) * (y * y))
-    ⊞ nil ((pos ((2 ^ 14 - 3) * (u + 2 ^ 36 * y)) ⊖ pos (2 ^ 43 * y)) ⊙ diffℕ e)) (search poly depth 30) done) (lit< tt)
+    (num (2 ^ 14 * u) ⊠ slackℕ d ⊞ num (2 * u) ⊠ slackℕ c ⊞ slackℕ b ⊞ num (2 ^ 27 * y) ⊠ slackℕ a ⊞ num (((2 ^ 14 - 3) * 2 ^ 72 - 2 ^ 82 - 2 ^ 38) * (y * y))
+    ⊞ nil ((pos ((2 ^ 14 - 3) * (u + 2 ^ 36 * y)) ⊖ pos (2 ^ 46 * y)) ⊙ diffℕ e)) (search poly depth 30) done) (lit< tt)
 
 -- M + 1 < F²: F - 2 ^ -27 is above it
 under : (K F P M u y : ℕ) → u ≡ 2 ^ 36 * y → 512 * y + K ≡ F → F ≤ 2 ^ 19 * u → 2 ^ 14 * (P * u) ≤ 2 ^ 14 * (F * F) + u * u → 2 ^ 13 * (M + u) ≤ 2 ^ 13 * P + u
@@ -114,7 +117,7 @@ next x g k b =
     small m n u b e = omega arith
 
 module _ (x s : Float) (g : Good x) (b : mag x ≤ 2 ^ 19 * unit) (k : Good s) (n : sign s ≡ false) where
-  over-root : T (lt (add binary64 (mul binary64 x x) (float 1)) s) → (mag x + 512 * tiny) * (mag x + 512 * tiny) ≤ mag s * unit
+  over-root : T (lt (add binary64 (mul binary64 x x) (float 1)) s) → (mag x + 4096 * tiny) * (mag x + 4096 * tiny) ≤ mag s * unit
   over-root f =
       let p = mul binary64 x x in
       let q = squared-near x g b in
@@ -199,14 +202,14 @@ module _ {d : ℕ} {t : Float} {τ : ℕ} (S : Scale d t τ) (l : ℕ) (ll : l �
   apart-clear f n =
       let a = sum-is S qs cs near channels in
       let far = add binary64 t h in
-      let k = above (mag far + 512 * tiny) (over-root far s (limit-is h (tested .h-good) (tested .h-sign) (tested .h-small) .0) (limit-small h (tested .h-good) (tested .h-sign) (tested .h-small)) (a .good) (a .sign-is) f) in
+      let k = above (mag far + 4096 * tiny) (over-root far s (limit-is h (tested .h-good) (tested .h-sign) (tested .h-small) .0) (limit-small h (tested .h-good) (tested .h-sign) (tested .h-small)) (a .good) (a .sign-is) f) in
       go (mag D) (mag t + mag h) (mag far) tiny tiny-large (limit-near h (tested .h-good) (tested .h-sign) (tested .h-small) .1) k (not-lt-sub D h tested t (S .is .good) (S .is .sign-is) n)
     where
-      go : (z X F y : ℕ) → 2 ^ 60 ≤ y → X ≤ F + 3 * y → F + 512 * y ≤ z + 65 * y → z ≤ X + 32 * y → ⊥
+      go : (z X F y : ℕ) → 2 ^ 60 ≤ y → X ≤ F + 3 * y → F + 4096 * y ≤ z + 65 * y → z ≤ X + 32 * y → ⊥
       go z X F y l a k n = omega arith
 
   -- ---- half the side, at most half the diagonal but for a rounding
-  side-ok : Side (sideAt d t l)
+  abbrev side-ok : Side (sideAt d t l)
   side-ok = level-side S l ll
 
   abbrev e : Float
@@ -216,10 +219,7 @@ module _ {d : ℕ} {t : Float} {τ : ℕ} (S : Scale d t τ) (l : ℕ) (ll : l �
   e-is = half-side (sideAt d t l) side-ok (side-half (sideAt d t l) side-ok)
 
   e-small : mag e ≤ 2 ^ 17 * unit
-  e-small = go (mag e) (side-half (sideAt d t l) side-ok .part) (mag (sideAt d t l)) unit (e-is .mag-is) (side-half (sideAt d t l) side-ok .twice) (side-ok .high)
-    where
-      go : (e p S u : ℕ) → e ≡ p → S ≡ 2 * p → S ≤ 2 ^ 16 * u → e ≤ 2 ^ 17 * u
-      go e p S u a b c = omega arith
+  e-small = le-trans (le-of-eq (e-is .mag-is)) (le-trans (half-le (sideAt d t l) side-ok) (mul-le-mul-right unit (lit≤ tt)))
 
   e-least : mag e ≤ mag h + 10 * tiny
   e-least =
@@ -232,61 +232,94 @@ module _ {d : ℕ} {t : Float} {τ : ℕ} (S : Scale d t τ) (l : ℕ) (ll : l �
   tested-side : Sizes D e
   tested-side = record { D-good = tested .D-good; D-sign = tested .D-sign; h-good = e-is .good; h-sign = e-is .sign-is; D-small = tested .D-small; h-small = e-small }
 
-  -- sum + 1 < (t + e)²: the distance is at most t + e and t + h
-  near-clear : T (lt (add binary64 s (float 1)) (mul binary64 (add binary64 t e) (add binary64 t e))) → (mag D ≤ mag t + mag e) × (mag D ≤ mag t + mag h)
-  near-clear f =
-      let a = sum-is S qs cs near channels in
-      let at = add binary64 t e in
-      let r = limit-near e (e-is .good) (e-is .sign-is) e-small in
-      let k = le-dest (least (mag t) (mag e) (mag at) unit tiny unit-tiny (tolerance-low S) (r .1)) in
-      let b = limit-small e (e-is .good) (e-is .sign-is) e-small in
-      let q = under-root at s (limit-is e (e-is .good) (e-is .sign-is) e-small .0) b (a .good) (a .sign-is) (a .small) (k .0) (k .1) f in
-      let z = root-up (mag D) (k .0) tiny tiny-large (low (k .0) (mag at) unit tiny unit-tiny (k .1) b) (rooted S qs cs near channels .high (k .0) q) in
-      go (mag D) (k .0) (mag at) (mag t) (mag e) (mag h) tiny (k .1) z (r .0) e-least
-    where
-      least : (T e N u y : ℕ) → u ≡ 2 ^ 36 * y → u ≤ T → T + e ≤ N + 3 * y → 512 * y ≤ N
-      least T e N u y i a b = omega arith
+  -- the distance is under t + x, and over ext - x
+  module _ (x : Float) (g : Good x) (k : sign x ≡ false) (b : mag x ≤ 2 ^ 17 * unit) where
+    under-clear : T (lt (add binary64 s (float 1)) (mul binary64 (add binary64 t x) (add binary64 t x))) → mag D + 256 * tiny ≤ mag t + mag x
+    under-clear f =
+        let a = sum-is S qs cs near channels in
+        let at = add binary64 t x in
+        let r = limit-near x g k b in
+        let K = le-dest (least (mag t) (mag x) (mag at) unit tiny unit-tiny (tolerance-low S) (r .1)) in
+        let c = limit-small x g k b in
+        let q = under-root at s (limit-is x g k b .0) c (a .good) (a .sign-is) (a .small) (K .0) (K .1) f in
+        let z = root-up (mag D) (K .0) tiny tiny-large (low (K .0) (mag at) unit tiny unit-tiny (K .1) c) (rooted S qs cs near channels .high (K .0) q) in
+        go (mag D) (K .0) (mag at) (mag t) (mag x) tiny (K .1) z (r .0)
+      where
+        least : (T x N u y : ℕ) → u ≡ 2 ^ 36 * y → u ≤ T → T + x ≤ N + 3 * y → 512 * y ≤ N
+        least T x N u y i a b = omega arith
 
-      low : (K N u y : ℕ) → u ≡ 2 ^ 36 * y → 512 * y + K ≡ N → N ≤ 2 ^ 19 * u → K ≤ 2 ^ 57 * y
-      low K N u y i k b = omega arith
+        low : (K N u y : ℕ) → u ≡ 2 ^ 36 * y → 512 * y + K ≡ N → N ≤ 2 ^ 19 * u → K ≤ 2 ^ 57 * y
+        low K N u y i k b = omega arith
 
-      go : (z K N T e h y : ℕ) → 512 * y + K ≡ N → z ≤ K + 129 * y → N ≤ T + e + 3 * y → e ≤ h + 10 * y → (z ≤ T + e) × (z ≤ T + h)
-      go z K N T e h y k a b c = omega arith
+        go : (z K N T x y : ℕ) → 512 * y + K ≡ N → z ≤ K + 129 * y → N ≤ T + x + 3 * y → z + 256 * y ≤ T + x
+        go z K N T x y k a b = omega arith
 
-  -- (ext - h)² + 1 < sum: it fails the first test of FullyCovered
-  outer-clear : (ext : Float) → Extended ext → mag t ≤ mag ext → T (lt (add binary64 (mul binary64 (sub binary64 ext h) (sub binary64 ext h)) (float 1)) s) → T (le (add binary64 D h) ext) → ⊥
-  outer-clear ext E m f n =
-      let a = sum-is S qs cs near channels in
-      let inner = sub binary64 ext h in
-      let w = shorter (2 ^ l) (mag h) (mag t) (mag ext) unit tiny unit-tiny (pow-pos l) (radius-high S l ll) (tolerance-low S) m in
-      let c = diff-close ext h (E .good) (tested .h-good) (E .sign-is) (tested .h-sign) w (le-trans (E .high) (mul-le-mul-right unit (lit≤ tt))) in
-      let r = close-three (mag inner) (mag ext - mag h) unit tiny unit-tiny tiny-large (less (mag ext) (mag h) unit (E .high)) (c .1) in
-      let k = above (mag inner + 512 * tiny) (over-root inner s (c .0) (small (mag inner) (mag ext - mag h) unit tiny unit-tiny (less (mag ext) (mag h) unit (E .high)) (r .0)) (a .good) (a .sign-is) f) in
-      go (mag D) (mag h) (mag ext) (mag inner) tiny tiny-large w (r .1) k (le-add D h tested ext (E .good) (E .sign-is) n)
-    where
-      shorter : (R h T X u y : ℕ) → u ≡ 2 ^ 36 * y → 0 < R → R * (2 * h) ≤ T + 4 * y → u ≤ T → T ≤ X → h ≤ X
-      shorter R h T X u y e p b c d = omega (arith, mul-le-mul-right (2 * h) p)
+    over-clear : (ext : Float) → Extended ext → mag x ≤ mag ext → T (lt (add binary64 (mul binary64 (sub binary64 ext x) (sub binary64 ext x)) (float 1)) s) → mag ext + 4000 * tiny ≤ mag D + mag x
+    over-clear ext E w f =
+        let a = sum-is S qs cs near channels in
+        let inner = sub binary64 ext x in
+        let c = diff-close ext x (E .good) g (E .sign-is) k w (le-trans (E .high) (mul-le-mul-right unit (lit≤ tt))) in
+        let m = less (mag ext) (mag x) unit (E .high) in
+        let r = close-three (mag inner) (mag ext - mag x) unit tiny unit-tiny tiny-large m (c .1) in
+        let K = above (mag inner + 4096 * tiny) (over-root inner s (c .0) (small (mag inner) (mag ext - mag x) unit tiny unit-tiny m (r .0)) (a .good) (a .sign-is) f) in
+        go (mag D) (mag x) (mag ext) (mag inner) tiny w (r .1) K
+      where
+        less : (X x u : ℕ) → X ≤ 2 ^ 17 * u → X - x ≤ 2 ^ 18 * u
+        less X x u b = omega arith
 
-      less : (X h u : ℕ) → X ≤ 2 ^ 17 * u → X - h ≤ 2 ^ 18 * u
-      less X h u b = omega arith
+        go : (z x X I y : ℕ) → x ≤ X → X - x ≤ I + 3 * y → I + 4096 * y ≤ z + 65 * y → X + 4000 * y ≤ z + x
+        go z x X I y w a k = omega arith
 
-      go : (z h X I y : ℕ) → 2 ^ 60 ≤ y → h ≤ X → X - h ≤ I + 3 * y → I + 512 * y ≤ z + 65 * y → z + h ≤ X + 32 * y → ⊥
-      go z h X I y l w a k n = omega arith
+  -- ---- an extended tolerance that is not below t
+  module _ (ext : Float) (E : Extended ext) (m : mag t ≤ mag ext) where
+    shorter : (x : ℕ) → x ≤ mag h + 10 * tiny → x ≤ mag ext
+    shorter x k = go (2 ^ l) (mag h) (mag t) (mag ext) x unit tiny unit-tiny (pow-pos l) (radius-high S l ll) (tolerance-low S) m k
+      where
+        go : (R h T X x u y : ℕ) → u ≡ 2 ^ 36 * y → 0 < R → R * (2 * h) ≤ T + 4 * y → u ≤ T → T ≤ X → x ≤ h + 10 * y → x ≤ X
+        go R h T X x u y e p b c d k = omega (arith, mul-le-mul-right (2 * h) p)
 
-  -- the box passes neither, and the test of Intersecting
-  pub crossing-clear : (ext : Float) → Extended ext → mag t ≤ mag ext → T (clearlyCrossing t ext h e s) → T (not (lt t (sub binary64 D h))) × (T (le (add binary64 D h) ext) → ⊥) × T (le (sub binary64 D e) t)
-  unfolding clearlyCrossing
-  crossing-clear ext E m f =
-      let at = add binary64 t e in
-      let inner = sub binary64 ext h in
-      let p = lt (add binary64 s (float 1)) (mul binary64 at at) in
-      let q = lt (add binary64 (mul binary64 inner inner) (float 1)) s in
-      let n = near-clear (and-left p q f) in
-      let r = le-trans (tolerance-high S) (mul-le-mul-right unit (lit≤ tt)) in (
-        sub-le-test D h tested t (S .is .good) (S .is .sign-is) (tolerance-rep S) r (n .1),
-        outer-clear ext E m (and-right p q f),
-        sub-not-above D e tested-side t (S .is .good) (S .is .sign-is) (sub-le-test D e tested-side t (S .is .good) (S .is .sign-is) (tolerance-rep S) r (n .0)),
-      )
+    not-above : (x : Float) → Sizes D x → mag D ≤ mag t + mag x → T (not (lt t (sub binary64 D x)))
+    not-above x z = sub-le-test D x z t (S .is .good) (S .is .sign-is) (tolerance-rep S) (le-trans (tolerance-high S) (mul-le-mul-right unit (lit≤ tt)))
+
+    -- between the limits of a and b, at most half the diagonal: the box passes neither the test of Disjoint nor the first of FullyCovered
+    between-clear : (a b : Float) → Sizes D a → Sizes D b → mag a ≤ mag h + 10 * tiny → mag b ≤ mag h + 10 * tiny → T (clearlyBetween t ext a b s)
+        → T (not (lt t (sub binary64 D h))) × (T (le (add binary64 D h) ext) → ⊥) × (mag D ≤ mag t + mag a) × (mag ext + 4000 * tiny ≤ mag D + mag b)
+    unfolding clearlyBetween
+    between-clear a b za zb la lb f =
+        let at = add binary64 t a in
+        let inner = sub binary64 ext b in
+        let i = lt (add binary64 s (float 1)) (mul binary64 at at) in
+        let j = lt (add binary64 (mul binary64 inner inner) (float 1)) s in
+        let p = under-clear a (za .h-good) (za .h-sign) (za .h-small) (and-left i j f) in
+        let q = over-clear b (zb .h-good) (zb .h-sign) (zb .h-small) ext E (shorter (mag b) lb) (and-right i j f) in
+        let n = near-enough (mag D) (mag t) (mag a) (mag h) tiny la p in
+        (not-above h tested (n .1), λ k. far-enough (mag D) (mag b) (mag h) (mag ext) tiny tiny-large lb q (le-add D h tested ext (E .good) (E .sign-is) k), n .0, q)
+      where
+        near-enough : (z T a h y : ℕ) → a ≤ h + 10 * y → z + 256 * y ≤ T + a → (z ≤ T + a) × (z ≤ T + h)
+        near-enough z T a h y k p = omega arith
+
+        far-enough : (z b h X y : ℕ) → 2 ^ 60 ≤ y → b ≤ h + 10 * y → X + 4000 * y ≤ z + b → z + h ≤ X + 32 * y → ⊥
+        far-enough z b h X y l k q n = omega arith
+
+    -- it passes the test of Intersecting, or fails the last of FullyCovered
+    pub crossing-clear : {xs : List Float} → Around (side-half (sideAt d t l) side-ok .part) qs xs cs → T (clearlyCrossing t ext h e s)
+        → T (not (lt t (sub binary64 D h))) × (T (le (add binary64 D h) ext) → ⊥) × (T (le (sub binary64 D e) t) ⊎ (T (lt (farthest qs (corners cs e)) ext) → ⊥))
+    unfolding clearlyCrossing
+    crossing-clear a f =
+        let r : mag h ≤ mag h + 10 * tiny = le-add-right (mag h) (10 * tiny) in
+        elim (or-cases (clearlyBetween t ext e h s) (clearlyBetween t ext h e s) f) [
+          | inl g ↦ let c = between-clear e h tested-side tested e-least r g in (c .0, c .1, inl (sub-not-above D e tested-side t (S .is .good) (S .is .sign-is) (not-above e tested-side (c .2))))
+          | inr g ↦ let c = between-clear h e tested tested-side r e-least g in (c .0, c .1, inr (λ w. too-far (mag D) (mag e) part (mag ext) tiny tiny-large (e-is .mag-is) (c .3) (outward w)))
+        ]
+      where
+        part : ℕ
+        part = side-half (sideAt d t l) side-ok .part
+
+        outward : T (lt (farthest qs (corners cs e)) ext) → mag D + part ≤ mag ext + 1200 * tiny
+        outward = corners-outward part e ext e-is (half-le (sideAt d t l) side-ok) (E .good) (E .sign-is) (E .high) a near (subst (λ (k : ℕ). 0 < k) (sym channels) (S .some)) (le-trans (le-of-eq channels) (S .most))
+
+        too-far : (z e p X y : ℕ) → 2 ^ 60 ≤ y → e ≡ p → X + 4000 * y ≤ z + e → z + p ≤ X + 1200 * y → ⊥
+        too-far z e p X y l a b c = omega arith
 
 -- ---- the box of frame x at a level's side, against frame q
 module _ {ps : List ℤ} {v : ValidParams} {n : ℕ} (r : Ready ps v n) (q x : ℕ) (hq : q < n) (hx : x < n) (cq : Counts (frame v (framesIn n (v .channels) ps) q)) (cx : Counts (frame v (framesIn n (v .channels) ps) x)) where
@@ -302,15 +335,20 @@ module _ {ps : List ℤ} {v : ValidParams} {n : ℕ} (r : Ready ps v n) (q x : �
   scale : Scale (v .channels) (v .tolerance) (v .t)
   scale = r .settings .scale
 
+  lq : length (frame v (framesIn n (v .channels) ps) q) ≡ v .channels
+  lq = frame-length n (v .channels) ps q (r .room) hq
+
+  lx : length (frame v (framesIn n (v .channels) ps) x) ≡ v .channels
+  lx = frame-length n (v .channels) ps x (r .room) hx
+
+  paired : Pair (frame v (framesIn n (v .channels) ps) q) (frame v (framesIn n (v .channels) ps) x)
+  paired = pair (frame v (framesIn n (v .channels) ps) q) (frame v (framesIn n (v .channels) ps) x) (lq ∙ sym lx) cq cx
+
   long : length ts ≡ v .channels
-  long = length-floats (frame v (framesIn n (v .channels) ps) q) ∙ frame-length n (v .channels) ps q (r .room) hq
+  long = length-floats (frame v (framesIn n (v .channels) ps) q) ∙ lq
 
   close : (l : ℕ) → l ≤ 11 → Near ts (centresAt (sideAt (v .channels) (v .tolerance) l))
-  close l ll =
-      let fs = framesIn n (v .channels) ps in
-      let lq = frame-length n (v .channels) ps q (r .room) hq in
-      let lx = frame-length n (v .channels) ps x (r .room) hx in
-      near-centre scale l ll (frame v fs q) (frame v fs x) (pair (frame v fs q) (frame v fs x) (lq ∙ sym lx) cq cx) lq lx
+  close l ll = near-centre scale l ll (frame v (framesIn n (v .channels) ps) q) (frame v (framesIn n (v .channels) ps) x) paired lq lx
 
   abbrev of-tests : Float → (ℕ → Float → Float → Float → List Float → List Float → Bool) → Bool
   of-tests side f = f (v .channels) (v .tolerance) (v .«appx_tolerance») side (centresAt side) ts
@@ -344,5 +382,5 @@ module _ {ps : List ℤ} {v : ValidParams} {n : ℕ} (r : Ready ps v n) (q x : �
     box-crossing =
         subst (λ (z : Float). T (clearlyCrossing (v .tolerance) (v .«appx_tolerance») (radius (v .channels) z) (half z) (sumAt z)) → boxAt v (framesIn n (v .channels) ps) z q x ≡ Intersecting) (sym (L .is))
         (λ f.
-        let c = crossing-clear scale (L .level) (low-level L) ts (centresAt y) (close (L .level) (low-level L)) long (v .«appx_tolerance») (r .settings .extended) extended-long f in
+        let c = crossing-clear scale (L .level) (low-level L) ts (centresAt y) (close (L .level) (low-level L)) long (v .«appx_tolerance») (r .settings .extended) extended-long (around y (level-side scale (L .level) (low-level L)) paired) f in
         box-tests y ∙ says-crossing (of-tests y apart-test) (of-tests y inside-test) (of-tests y near-test) (of-tests y corner-test) (c .0) (c .1) (c .2))

@@ -4,7 +4,7 @@ use mathlib.Core.Logic.{_⊎_, inl, inr}
 use mathlib.Core.Bool.{Bool, true, false, not, cond}
 use mathlib.Core.List.{List, [], _∷_}
 use Prim.Native.Nat.{ℕ, _+_, _*_, _^_, _≤_, _<_}
-use native.Mathlib.Nat.{lt-of-le-of-lt, mul-le-mul-right, le-of-lt}
+use native.Mathlib.Nat.{le-trans, lt-of-le-of-lt, mul-le-mul-right, le-of-lt}
 use native.Mathlib.Omega.{arith, by-contra}
 use lib.Dec.{T, ltb, ltb→lt, lt→ltb, nltb→le, lit≤}
 use lib.ListN.{length}
@@ -23,7 +23,7 @@ use Rattle.counting_tree.specs.Box.{distance, corners, both, farthestFro
 
 -- ---- one channel: q, x and the centre c, with the two ends of the box
 -- each signed number a - b: q = a - b, x = c - d, the centre e - f, an end g - h
-ends : (a b c d e f g h g' h' k m n n' H t : ℕ)
+pub ends : (a b c d e f g h g' h' k m n n' H t : ℕ)
     → (a + d ≡ b + c + k) ⊎ (b + c ≡ a + d + k) → (c + f ≡ d + e + m) ⊎ (d + e ≡ c + f + m) → m ≤ H + 6 * t
     → (a + h ≡ b + g + n) ⊎ (b + g ≡ a + h + n) → (a + h' ≡ b + g' + n') ⊎ (b + g' ≡ a + h' + n')
     → g + (f + H) ≤ e + h + 3 * t → e + H + h' ≤ g' + f + 3 * t → (k ≤ n + 9 * t) ⊎ (k ≤ n' + 9 * t)
@@ -122,12 +122,12 @@ unfolding both
 in-high x y k (_ ∷ ls) here = there here
 in-high x y k (l ∷ ls) (there m) = there (there (in-high x y k ls m))
 
--- the corner that lies beyond x as seen from q
-pub record Beyond (H : ℕ) (e : Float) (qs xs cs : List Float) : Type 0 where
+-- a corner whose gap to q is w in each channel, or more, but for 9 * 2 ^ -36
+pub record Beyond (e : Float) (qs cs : List Float) (ws : List ℕ) : Type 0 where
   pub corner : List Float
   pub member : Member corner (corners cs e)
   pub near : Near qs corner
-  pub beyond : Tri (gaps qs xs) (gaps qs corner) (same (9 * tiny) qs)
+  pub beyond : Tri ws (gaps qs corner) (same (9 * tiny) qs)
 
 reach-end : (a b c d g h k n m H u t : ℕ) → (a + h ≡ b + g + n) ⊎ (b + g ≡ a + h + n) → (a + d ≡ b + c + k) ⊎ (b + c ≡ a + d + k) → k ≤ 2 ^ 17 * u → H ≤ 2 ^ 15 * u → u ≡ 2 ^ 36 * t
     → g + d ≤ c + H + h + 3 * t → c + h ≤ g + d + H + 3 * t → n ≤ 2 ^ 18 * u
@@ -159,29 +159,35 @@ high-end q c e H k g h = go (plus q) (minus q) (plus c) (minus c) (plus (add bin
         second : (a b c d g h H t : ℕ) → c + H + h ≤ g + d + 3 * t → c + h ≤ g + d + H + 3 * t
         second a b c d g h H t r = omega arith
 
-pub beyond-is : (H : ℕ) (e : Float) → Is e false H → H ≤ 2 ^ 15 * unit → {qs xs cs : List Float} → Around H qs xs cs → Beyond H e qs xs cs
+pub no-beyond : (e : Float) → Beyond e [] [] []
 unfolding corners
-beyond-is H e i h no-channel = record { corner = []; member = here; near = no-more; beyond = none }
+no-beyond e = record { corner = []; member = here; near = no-more; beyond = none }
+
+-- one channel more: one of its ends is w away
+pub more-beyond : (H : ℕ) (q c e : Float) (w : ℕ) {qs cs : List Float} {ws : List ℕ} → Good q → gap q c ≤ 2 ^ 17 * unit → H ≤ 2 ^ 15 * unit → Ends c e H
+    → (w ≤ gap q (sub binary64 c e) + 9 * tiny) ⊎ (w ≤ gap q (add binary64 c e) + 9 * tiny) → Beyond e qs cs ws → Beyond e (q ∷ qs) (c ∷ cs) (w ∷ ws)
+unfolding corners
+more-beyond H q c e w {qs} {cs} g b h k (inl f) r = record {
+  corner = sub binary64 c e ∷ r .corner;
+  member = in-low (sub binary64 c e) (add binary64 c e) (r .corner) (corners cs e) (r .member);
+  near = one g (k .low-good) (low-end q c e H k b h) (r .near);
+  beyond = more f (r .beyond);
+}
+more-beyond H q c e w {qs} {cs} g b h k (inr f) r = record {
+  corner = add binary64 c e ∷ r .corner;
+  member = in-high (sub binary64 c e) (add binary64 c e) (r .corner) (corners cs e) (r .member);
+  near = one g (k .high-good) (high-end q c e H k b h) (r .near);
+  beyond = more f (r .beyond);
+}
+
+-- the corner that lies beyond x as seen from q
+beyond-is : (H : ℕ) (e : Float) → Is e false H → H ≤ 2 ^ 15 * unit → {qs xs cs : List Float} → Around H qs xs cs → Beyond e qs cs (gaps qs xs)
+beyond-is H e i h no-channel = no-beyond e
 beyond-is H e i h (channel {q} {x} {c} {qs} {xs} {cs} gq gx gc mc w v a) =
-    pick (beyond-is H e i h a) (ends-are c e H gc mc i h)
-  where
-    pick : Beyond H e qs xs cs → Ends c e H → Beyond H e (q ∷ qs) (x ∷ xs) (c ∷ cs)
-    pick r k =
-        elim (ends (plus q) (minus q) (plus x) (minus x) (plus c) (minus c) (plus (sub binary64 c e)) (minus (sub binary64 c e)) (plus (add binary64 c e)) (minus (add binary64 c e)) (gap q x) (gap x c) (gap q (sub binary64 c e)) (gap q (add binary64 c e)) H tiny
-        (gap-is q x) (gap-is x c) v (gap-is q (sub binary64 c e)) (gap-is q (add binary64 c e)) (k .low) (k .high)) [
-          | inl f ↦ record {
-            corner = sub binary64 c e ∷ r .corner;
-            member = in-low (sub binary64 c e) (add binary64 c e) (r .corner) (corners cs e) (r .member);
-            near = one gq (k .low-good) (low-end q c e H k w h) (r .near);
-            beyond = more f (r .beyond);
-          }
-          | inr f ↦ record {
-            corner = add binary64 c e ∷ r .corner;
-            member = in-high (sub binary64 c e) (add binary64 c e) (r .corner) (corners cs e) (r .member);
-            near = one gq (k .high-good) (high-end q c e H k w h) (r .near);
-            beyond = more f (r .beyond);
-          }
-        ]
+    let k = ends-are c e H gc mc i h in
+    more-beyond H q c e (gap q x) gq w h k
+    (ends (plus q) (minus q) (plus x) (minus x) (plus c) (minus c) (plus (sub binary64 c e)) (minus (sub binary64 c e)) (plus (add binary64 c e)) (minus (add binary64 c e)) (gap q x) (gap x c) (gap q (sub binary64 c e)) (gap q (add binary64 c e)) H tiny
+    (gap-is q x) (gap-is x c) v (gap-is q (sub binary64 c e)) (gap-is q (add binary64 c e)) (k .low) (k .high)) (beyond-is H e i h a)
 
 -- every corner is near q
 pub data Nears (qs : List Float) : List (List Float) → Type 0 where
@@ -244,29 +250,31 @@ nearer : (qs k : List Float) (ext : Float) (ls : List (List Float)) → Good ext
 unfolding farthest
 nearer qs k ext ls x l n m t = from-nearer (float 0) ext qs ls (ofInt-pos 0 (lit≤ tt) .good) x l n t .1 k m
 
-pub corners-right : (H : ℕ) (e ext : Float) → Is e false H → H ≤ 2 ^ 15 * unit → Good ext → sign ext ≡ false → mag ext ≤ 2 ^ 17 * unit → {qs xs cs : List Float} → Around H qs xs cs → length qs ≤ 4
-    → T (lt (farthest qs (corners cs e)) ext) → squares (gaps qs xs) < mag ext * mag ext + unit * unit
-corners-right H e ext i h g s b {qs} {xs} {cs} a l t =
-    let r = beyond-is H e i h a in
-    let k = r .corner in
-    let z = mag (distance qs k) in
-    let dg = dist-good (r .near) l in
-    let P : 1 ≤ tiny = omega (arith, tiny-large) in
-    let c : plus (distance qs k) + minus ext < plus ext + minus (distance qs k) = ltb→lt (plus (distance qs k) + minus ext) (plus ext + minus (distance qs k)) (subst T (lt-is (distance qs k) ext (dg .0) g) (nearer qs k ext (corners cs e) g l (all-near H e i h a) (r .member) t)) in
-    let zl : z < mag ext = below (plus (distance qs k)) (minus (distance qs k)) (plus ext) (minus ext) z (mag ext) (plus-pos (distance qs k) (dg .1)) (minus-pos (distance qs k) (dg .1)) (plus-pos ext s) (minus-pos ext s) c in
-    let w = by-contra (squares (gaps qs k)) ((z + 512 * tiny + 1) * (z + 512 * tiny + 1)) (λ f.
-    more-than (z + 512 * tiny) (dist-low (r .near) l (z + 512 * tiny + 1) (bounds z (mag ext) unit tiny unit-tiny b P zl) (le-of-lt f))) in
-    lt-of-le-of-lt (triangle (z + 512 * tiny + 1) (2 * (9 * tiny)) (r .beyond) w (same-short (9 * tiny) qs l))
-    (lt-of-le-of-lt (sq-mono (total z (mag ext) tiny P zl)) (reach-sum (mag ext) unit tiny unit-tiny P b))
-  where
-    below : (a b c d z e : ℕ) → a ≡ z → b ≡ 0 → c ≡ e → d ≡ 0 → a + d < c + b → z < e
-    below a b c d z e i j k l h = omega arith
+module _ (H : ℕ) (e ext : Float) (i : Is e false H) (h : H ≤ 2 ^ 15 * unit) (g : Good ext) (s : sign ext ≡ false) (b : mag ext ≤ 2 ^ 17 * unit) {qs xs cs : List Float} (a : Around H qs xs cs) (l : length qs ≤ 4) where
+  -- where the farthest corner is nearer than ext, what a corner lies beyond is no longer than ext, but for the roundings
+  pub corners-within : {ws : List ℕ} → Beyond e qs cs ws → T (lt (farthest qs (corners cs e)) ext) → squares ws ≤ (mag ext + 600 * tiny) * (mag ext + 600 * tiny)
+  corners-within r t =
+      let k = r .corner in
+      let z = mag (distance qs k) in
+      let dg = dist-good (r .near) l in
+      let P : 1 ≤ tiny = omega (arith, tiny-large) in
+      let c : plus (distance qs k) + minus ext < plus ext + minus (distance qs k) = ltb→lt (plus (distance qs k) + minus ext) (plus ext + minus (distance qs k)) (subst T (lt-is (distance qs k) ext (dg .0) g) (nearer qs k ext (corners cs e) g l (all-near H e i h a) (r .member) t)) in
+      let zl : z < mag ext = below (plus (distance qs k)) (minus (distance qs k)) (plus ext) (minus ext) z (mag ext) (plus-pos (distance qs k) (dg .1)) (minus-pos (distance qs k) (dg .1)) (plus-pos ext s) (minus-pos ext s) c in
+      let w = by-contra (squares (gaps qs k)) ((z + 512 * tiny + 1) * (z + 512 * tiny + 1)) (λ f.
+      more-than (z + 512 * tiny) (dist-low (r .near) l (z + 512 * tiny + 1) (bounds z (mag ext) unit tiny unit-tiny b P zl) (le-of-lt f))) in
+      le-trans (triangle (z + 512 * tiny + 1) (2 * (9 * tiny)) (r .beyond) w (same-short (9 * tiny) qs l)) (sq-mono (total z (mag ext) tiny P zl))
+    where
+      below : (a b c d z e : ℕ) → a ≡ z → b ≡ 0 → c ≡ e → d ≡ 0 → a + d < c + b → z < e
+      below a b c d z e i j k l h = omega arith
 
-    more-than : (x : ℕ) → x + 1 ≤ x → ⊥
-    more-than x h = omega arith
+      more-than : (x : ℕ) → x + 1 ≤ x → ⊥
+      more-than x h = omega arith
 
-    bounds : (z E u t : ℕ) → u ≡ 2 ^ 36 * t → E ≤ 2 ^ 17 * u → 1 ≤ t → z < E → z + 512 * t + 1 ≤ 2 ^ 55 * t
-    bounds z E u t e b p h = omega arith
+      bounds : (z E u t : ℕ) → u ≡ 2 ^ 36 * t → E ≤ 2 ^ 17 * u → 1 ≤ t → z < E → z + 512 * t + 1 ≤ 2 ^ 55 * t
+      bounds z E u t e b p h = omega arith
 
-    total : (z E t : ℕ) → 1 ≤ t → z < E → z + 512 * t + 1 + 2 * (9 * t) ≤ E + 600 * t
-    total z E t p h = omega arith
+      total : (z E t : ℕ) → 1 ≤ t → z < E → z + 512 * t + 1 + 2 * (9 * t) ≤ E + 600 * t
+      total z E t p h = omega arith
+
+  pub corners-right : T (lt (farthest qs (corners cs e)) ext) → squares (gaps qs xs) < mag ext * mag ext + unit * unit
+  corners-right t = lt-of-le-of-lt (corners-within (beyond-is H e i h a) t) (reach-sum (mag ext) unit tiny unit-tiny (omega (arith, tiny-large)) b)

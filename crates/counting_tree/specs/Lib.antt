@@ -16,6 +16,7 @@ pub mod Sides
 pub mod Tests
 pub mod Corners
 pub mod Farthest
+pub mod Outward
 pub mod WholeFrames
 pub mod WholeDistance
 pub mod Answers

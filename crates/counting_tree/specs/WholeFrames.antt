@@ -107,7 +107,7 @@ near-floats (channel {x} {y} h k c) =
     one (coordinate-is x h .0) (coordinate-is y k .0) (le-trans (le-of-eq (gap-apart x y h k)) (mul-le-mul-right unit (le-trans (apart-le x y h k) (lit≤ tt)))) (near-floats c)
 
 -- ---- a frame under the box of its indexes
-half-le : (side : Float) (s : Side side) → side-half side s .part ≤ 2 ^ 15 * unit
+pub half-le : (side : Float) (s : Side side) → side-half side s .part ≤ 2 ^ 15 * unit
 half-le side s = go (side-half side s .part) (mag side) unit (side-half side s .twice) (s .high)
   where
     go : (p m u : ℕ) → m ≡ 2 * p → m ≤ 2 ^ 16 * u → p ≤ 2 ^ 15 * u

@@ -11,7 +11,7 @@ ghost use Rattle.counting_tree.specs.Frames as Frames;
 ghost use Rattle.counting_tree.specs.Frames.{framesIn, apart};
 ghost use Rattle.counting_tree.specs.Box.{sumFrom};
 ghost use Rattle.counting_tree.specs.Settled.{settledBy};
-ghost use Rattle.counting_tree.specs.Clear.{clearlyApart, clearlyCrossing};
+ghost use Rattle.counting_tree.specs.Clear.{clearlyApart, clearlyBetween, clearlyCrossing};
 ghost use Rattle.counting_tree.specs.NearBox.{reach, closeTo, nearBox};
 ghost use Rattle.hyperparams.specs.Params.{float};
 ghost use Rattle.counting_tree.specs.Grid.{centre, indexes};
@@ -265,16 +265,23 @@ fn clearly_apart(sum: f64, h: f64, t: f64) -> bool
     far * far + 1.0 < sum
 }
 
-// Whether it is under (t + e)² by 1, with e half the side, and over (appx − h)² by 1: the distance less e is then at most t, and with h it is over appx.
+// Whether it is under (t + a)² by 1 and over (appx − b)² by 1: the distance is then under t + a and over appx − b.
+fn clearly_between(sum: f64, a: f64, b: f64, t: f64, appx: f64) -> bool
+    ensures { λ r. ⌜ r ≡ clearlyBetween t appx a b sum ⌝ }
+{
+    let above = t + a;
+    let below = appx - b;
+    sum + 1.0 < above * above && below * below + 1.0 < sum
+}
+
+// Whether it tells that the box is cut, with e half the side: the distance less e is at most t, and with h it is over appx; or less h it is at most t, and with e it is over appx, where the farthest corner is too, and no corner has to be looked at.
 fn clearly_crossing(sum: f64, h: f64, e: f64, t: f64, appx: f64) -> bool
     ensures { λ r. ⌜ r ≡ clearlyCrossing t appx h e sum ⌝ }
 {
-    let near = t + e;
-    let inner = appx - h;
-    sum + 1.0 < near * near && inner * inner + 1.0 < sum
+    clearly_between(sum, e, h, t, appx) || clearly_between(sum, h, e, t, appx)
 }
 
-// How the box of a level's side in which frame x lies stands to frame q. The root is taken only where the sum of squares is near a limit.
+// How the box of a level's side in which frame x lies stands to frame q. The root is taken, and corners are looked at, only where the sum of squares tells nothing.
 pub fn classify(
     points: &[i16],
     v: ValidParams,
