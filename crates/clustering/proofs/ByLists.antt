@@ -30,16 +30,16 @@ use Rattle.partitions.specs.Leaders.{Falling, root, shorten}
 use Rattle.partitions.specs.LeaderLaws.{Stands, own-stands, shorten-stands, shorten-leads}
 use Rattle.partitions.specs.Trials.{byLowest}
 use Rattle.partitions.specs.TrialLaws.{Within}
-use Rattle.clustering.specs.Uniting.{pairAt, onePair, pairsWith}
+use Rattle.clustering.specs.Uniting.{pairAt, onePair, pairsWith, touchAt}
 use Rattle.clustering.specs.UnitingLaws.{parts-pair, with-more, with-none, with-within, one-within}
-use Rattle.clustering.specs.UniteAll.{linkedAt, meetAll, byOwnLeaders, unlike, meetLists}
+use Rattle.clustering.specs.UniteAll.{meetAll, byOwnLeaders, unlike, meetLists}
 use Rattle.clustering.specs.UniteAllLaws.{meet-append, all-stand}
 use Rattle.clustering.proofs.Held.{frames, few-cells, cell-count, is-cell, tree-held}
 use Rattle.clustering.proofs.Lent.{lent, lent-length, back}
 
 -- what pairs leave of the leaders p
 abbrev pub left : Geometry → List (ℕ × ℕ) → List ℕ → List ℕ
-left g = meetAll byOwnLeaders (linkedAt g)
+left g = meetAll byOwnLeaders (touchAt g)
 
 -- ---- w₀ are the words at first, w those now: only the leaders' have changed
 pub record Leading (g : Geometry) (n k : ℕ) (w₀ w : List ℕ) : Type 0 where
@@ -90,8 +90,8 @@ module _ {g : Geometry} {n k : ℕ} {w₀ w : List ℕ} (i : Leading g n k w₀ 
     }
 
   -- what pairs of cells below k leave are such
-  pub pairs-stand : (ps : List (ℕ × ℕ)) → Within k ps → Stands k (meetAll byLowest (linkedAt g) ps (root (part w (6 * n) k))) (left g ps (part w (6 * n) k))
-  pairs-stand ps within = all-stand (linkedAt g) k ps within leaders-stand
+  pub pairs-stand : (ps : List (ℕ × ℕ)) → Within k ps → Stands k (meetAll byLowest (touchAt g) ps (root (part w (6 * n) k))) (left g ps (part w (6 * n) k))
+  pairs-stand ps within = all-stand (touchAt g) k ps within leaders-stand
 
 -- ---- cell c with the m cells from 15n on, of which the first j are met
 pub record Listing (g : Geometry) (n k : ℕ) (w₀ w : List ℕ) (c m j : ℕ) : Type 0 where
@@ -151,7 +151,7 @@ module _ {g : Geometry} {n k : ℕ} {w₀ w : List ℕ} {c m j : ℕ} (i : Listi
           high = omega arith;
           goes = i .goes
               ∙ ap (λ (ps : List (ℕ × ℕ)). left g ps (part w (6 * n) k)) split
-              ∙ meet-append byOwnLeaders (linkedAt g) (onePair g c d) (pairsWith g c (drop (j + 1) given)) (part w (6 * n) k)
+              ∙ meet-append byOwnLeaders (touchAt g) (onePair g c d) (pairsWith g c (drop (j + 1) given)) (part w (6 * n) k)
               ∙ ap (left g (pairsWith g c (drop (j + 1) given))) (sym (leaders-now L s f));
         }
 
@@ -164,7 +164,7 @@ module _ {g : Geometry} {n k : ℕ} {w₀ w : List ℕ} {c m j : ℕ} (i : Listi
 -- ---- the cells from c on, each with the cells of its list that have another leader
 -- what the cells cs leave of the leaders p
 abbrev leftBy : (v : ValidParams) (n : ℕ) (ps : List ℤ) → List ℕ → List ℕ → List ℕ
-leftBy v n ps = meetLists (geometryAt v n ps) (linkedAt (geometryAt v n ps)) (listOf v n ps)
+leftBy v n ps = meetLists (geometryAt v n ps) (touchAt (geometryAt v n ps)) (listOf v n ps)
 
 -- the pairs of c that are met from the leaders p, once its own is looked for
 abbrev rowOf : (v : ValidParams) (n : ℕ) (ps : List ℤ) → ℕ → List ℕ → List (ℕ × ℕ)
@@ -328,7 +328,7 @@ module _ {ps : List ℤ} {v : ValidParams} {n : ℕ} (r : Ready ps v n) {k : ℕ
           abbrev after : List ℕ
           after = left g row p
 
-          after-stand : Stands k (meetAll byLowest (linkedAt g) row (root p)) after
+          after-stand : Stands k (meetAll byLowest (touchAt g) row (root p)) after
           after-stand = pairs-stand L row (with-within g c (unlike p c all) (i .cell) (λ d j. in-ds d (subst (In d) (sym unlike-marked) j) .0))
 
           -- the list stands above the leaders

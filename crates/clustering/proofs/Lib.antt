@@ -1,6 +1,5 @@
 pub mod Held
 pub mod Touching
-pub mod Linking
 pub mod Lent
 pub mod Trying
 pub mod Meeting

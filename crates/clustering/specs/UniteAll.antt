@@ -1,28 +1,14 @@
 -- Uniting the linked core cells with no count of trials: the pairs in whatever order lists give them. Definitions only.
-use mathlib.Core.Bool.{Bool, not, _&&_, _||_, cond}
+use mathlib.Core.Bool.{Bool, not, cond}
 use mathlib.Core.List.{List, [], _∷_, map}
 use Prim.Native.Nat.{ℕ}
-use lib.Dec.{eqb, ltb}
-use lib.ListN.{length, getD}
-use Rattle.lists.specs.Lists.{keep, concat, nonzero}
+use lib.Dec.{eqb}
+use lib.ListN.{getD}
+use Rattle.lists.specs.Lists.{keep, concat}
 use Rattle.counting_tree.specs.Geometry.{Geometry}
-use Rattle.cells_grid.specs.Cells.{members, core, count}
-use Rattle.cells_grid.specs.Arrangement.{cellAt}
-use Rattle.core_cells.specs.Spans.{many}
 use Rattle.partitions.specs.Leaders.{root, shorten, shortenBoth, united}
 use Rattle.partitions.specs.Trials.{Holding}
-use Rattle.clustering.specs.Uniting.{pairsWith, touchAt}
-
-module _ (g : Geometry) where
-  -- whether cell c has many frames, and the first frame of d is core and has a non-zero count in the tree of c
-  unfoldable pub backAt : ℕ → ℕ → Bool
-  unfolding members core count
-  backAt c d = ltb many (length (members g (cellAt g c))) && (core g (cellAt g d) && nonzero (count g (cellAt g d) (cellAt g c)))
-
-  -- whether the pair of c and d is told to be linked: by that frame of d, or since c touches d
-  unfoldable pub linkedAt : ℕ → ℕ → Bool
-  unfolding backAt touchAt
-  linkedAt c d = backAt c d || touchAt g c d
+use Rattle.clustering.specs.Uniting.{pairsWith}
 
 module _ {S : Type 0} (h : Holding S) (touch : ℕ → ℕ → Bool) where
   -- the pair of a and b is met: in one set it is passed, else the two sets are made one if the pair touches

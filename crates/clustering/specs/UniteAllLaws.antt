@@ -1,4 +1,4 @@
--- Laws of uniting with no count of trials: whatever the order of the pairs, whichever of the two is asked, with some of them taken before, and without those of cells that have one leader, it leaves the sets that enough trials leave.
+-- Laws of uniting with no count of trials: whatever the order of the pairs, with some of them taken before, and without those of cells that have one leader, it leaves the sets that enough trials leave.
 use mathlib.Core.Path.{_≡_, refl, sym, ap, _∙_, subst}
 use mathlib.Core.Logic.{inl, inr}
 use mathlib.Core.Bool.{Bool, true, false, not, _&&_, _||_, cond, and-comm}
@@ -6,36 +6,30 @@ use mathlib.Core.List.{List, [], _∷_, _++_, map}
 use Prim.Native.Nat.{ℕ, suc, _+_, _*_, _<_, _≤_, min}
 use native.Mathlib.Nat.{le-refl, le-antisymm}
 use native.Mathlib.Omega.{arith}
-use lib.Dec.{T, eqb, ltb, eqb→eq}
+use lib.Dec.{T, eqb, eqb→eq}
 use lib.IntN.{ℤ}
 use lib.ListN.{length, getD}
 use borrow.Author.Tests.{lt-ltb, eq-eqb}
-use Rattle.lists.specs.Lists.{numbers, keep, In, Below, nonzero}
+use Rattle.lists.specs.Lists.{numbers, keep, In, Below}
 use Rattle.lists.specs.Words.{column}
-use Rattle.lists.specs.ListLaws.{true-T, not-turn, and-left, and-right, or-cases, or-two, any-in}
-use Rattle.lists.specs.ListLaws.{keep-in, in-keep, keep-same, append-two, in-append, concat-in, in-concat, map-in, in-map, numbers-in, in-numbers}
+use Rattle.lists.specs.ListLaws.{true-T, not-turn, keep-in, in-keep, keep-same, append-two, in-append, concat-in, in-concat, map-in, in-map, numbers-in, in-numbers}
 use Rattle.lists.specs.CountLaws.{keep-keep, keep-map}
 use Rattle.lists.specs.Chains.{Chain, chain-map}
 use Rattle.hyperparams.specs.declared.ValidParams.{ValidParams}
 use Rattle.counting_tree.specs.Geometry.{Geometry}
 use Rattle.counting_tree.specs.Ready.{geometryAt, Ready}
-use Rattle.cells_grid.specs.Cells.{cells, members, core, coreMembers, listed, coreCell, count}
-use Rattle.cells_grid.specs.Lawful.{Lawful}
-use Rattle.cells_grid.specs.CellLaws.{core-in, listed-turn}
+use Rattle.cells_grid.specs.Cells.{cells, listed, coreCell}
 use Rattle.cells_grid.specs.Arrangement.{cellAt}
-use Rattle.cells_grid.specs.ArrangementLaws.{cell-at-below}
 use Rattle.cells_grid.specs.Listing.{listOf}
 use Rattle.cells_grid.specs.ListingLaws.{list-sound, list-complete}
-use Rattle.core_cells.specs.Spans.{many}
 use Rattle.partitions.specs.Leaders.{root, shortenBoth}
 use Rattle.partitions.specs.LeaderLaws.{Stands, root-next, alone-stands, shorten-stands, both-stand, united-stands}
 use Rattle.partitions.specs.Trials.{Holding, Outcome, run, merged, byLowest}
 use Rattle.partitions.specs.TrialLaws.{run-finishes, run-keeps, Link, Within, joined-one, one-joined}
 use Rattle.clustering.specs.LeaderPartition.{Lowest, unite-lowest}
-use Rattle.clustering.specs.Clusters.{touches}
 use Rattle.clustering.specs.Uniting.{pairAt, pairsWith, pairsOf, touchAt, uniting, lowestAt}
-use Rattle.clustering.specs.UnitingLaws.{in-pairs, pairs-in, pair-parts, parts-pair, with-within, pairs-few}
-use Rattle.clustering.specs.UniteAll.{backAt, linkedAt, meet, meetAll, byOwnLeaders, unlike, meetLists, pairsBy}
+use Rattle.clustering.specs.UnitingLaws.{in-pairs, pairs-in, pair-parts, with-within, pairs-few}
+use Rattle.clustering.specs.UniteAll.{meet, meetAll, byOwnLeaders, unlike, meetLists, pairsBy}
 
 -- ---- however sets are held
 module _ {S : Type 0} (h : Holding S) (touch : ℕ → ℕ → Bool) where
@@ -87,16 +81,21 @@ module _ (touch : ℕ → ℕ → Bool) where
     one-tied : (x y : ℕ) → lowest ps x ≡ lowest ps y → Tied ps x y
     one-tied x y e = one-joined touch (length ps) ps (λ c. Unit {0}) (λ a b i. (tt, tt)) x y tt tt (subst (λ (l : ℕ → ℕ). l x ≡ l y) (sym tried) e)
 
--- more links leave lower cells
-more-lower : (f h : ℕ → ℕ → Bool) (ps qs : List (ℕ × ℕ)) → ((a b : ℕ) → Link f ps a b → Link h qs a b) → (x : ℕ) → lowest h qs x ≤ lowest f ps x
-more-lower f h ps qs links x =
-    let t = one-tied f ps (lowest f ps x) x (lowest-lowest f ps .itself x) in
-    let e = tied-one h qs (chain-map (λ p c. c) links t) in
-    subst (λ (y : ℕ). y ≤ lowest f ps x) e (lowest-lowest h qs .lower (lowest f ps x))
+  module _ (ps qs : List (ℕ × ℕ)) (within : (a b : ℕ) → In (a, b) ps → In (a, b) qs) where
+    link-within : (a b : ℕ) → Link touch ps a b → Link touch qs a b
+    link-within a b (inl i) = inl (within a b (i .0), i .1)
+    link-within a b (inr i) = inr (within b a (i .0), i .1)
 
--- NEITHER THE ORDER MATTERS NOR WHICH OF A PAIR IS ASKED: the same links leave the same lowest cells
-pub any-order : (f h : ℕ → ℕ → Bool) (ps qs : List (ℕ × ℕ)) → ((a b : ℕ) → Link f ps a b → Link h qs a b) → ((a b : ℕ) → Link h qs a b → Link f ps a b) → (x : ℕ) → lowest f ps x ≡ lowest h qs x
-any-order f h ps qs to back x = le-antisymm (more-lower h f qs ps back x) (more-lower f h ps qs to x)
+    -- more pairs leave lower cells
+    more-lower : (x : ℕ) → lowest qs x ≤ lowest ps x
+    more-lower x =
+        let t = one-tied ps (lowest ps x) x (lowest-lowest ps .itself x) in
+        let e = tied-one qs (chain-map (λ p c. c) link-within t) in
+        subst (λ (y : ℕ). y ≤ lowest ps x) e (lowest-lowest qs .lower (lowest ps x))
+
+  -- THE ORDER DOES NOT MATTER: the same pairs leave the same lowest cells
+  pub any-order : (ps qs : List (ℕ × ℕ)) → ((a b : ℕ) → In (a, b) ps → In (a, b) qs) → ((a b : ℕ) → In (a, b) qs → In (a, b) ps) → (x : ℕ) → lowest ps x ≡ lowest qs x
+  any-order ps qs to back x = le-antisymm (more-lower qs ps back x) (more-lower ps qs to x)
 
 -- ---- by leaders in memory
 module _ (touch : ℕ → ℕ → Bool) (n : ℕ) where
@@ -189,33 +188,6 @@ module _ (g : Geometry) where
           let q : getD p b 0 ≡ getD p a 0 = eqb→eq (getD p b 0) (getD p a 0) (true-T (not-turn (eqb (getD p b 0) (getD p a 0)) false e)) in
           sym (s .roots a (w .0)) ∙ root-next (s .falling) a ∙ ap (root p) (sym q) ∙ sym (root-next (s .falling) b) ∙ s .roots b (w .1)
 
--- ---- pairs that are told to be linked
-module _ (g : Geometry) where
-  pub touch-linked : (c d : ℕ) → T (touchAt g c d) → T (linkedAt g c d)
-  unfolding linkedAt
-  touch-linked c d = or-two (backAt g c d) (touchAt g c d)
-
-  module _ (L : Lawful g) where
-    -- the first frame of a cell is one of its frames
-    back-touches : (c d : ℕ) → d < length (cells g) → T (backAt g c d) → T (touchAt g d c)
-    unfolding backAt touchAt touches
-    back-touches c d h t =
-        let i = cellAt g d in
-        let both = and-right (ltb many (length (members g (cellAt g c)))) (core g i && nonzero (count g i (cellAt g c))) t in
-        let own = core-in g i i (cell-at-below g d h) (and-left (core g i) (nonzero (count g i (cellAt g c))) both) (L .same-self 0 i) in
-        any-in (λ x. nonzero (count g x (cellAt g c))) i (coreMembers g i) own (and-right (core g i) (nonzero (count g i (cellAt g c))) both)
-
-    -- pairs stand both ways round: so one that is told to be linked touches, as it stands or turned
-    told-links : (a b : ℕ) → In (a, b) (pairsOf g) → T (linkedAt g a b) → Link (touchAt g) (pairsOf g) a b
-    unfolding linkedAt
-    told-links a b i t =
-        let z = in-pairs g a b i in
-        let p = pair-parts g a b (z .2) in
-        elim (or-cases (backAt g a b) (touchAt g a b) t) [
-          | inl u ↦ inr (pairs-in g b a (z .1) (z .0) (parts-pair g b a (p .1) (p .0) (listed-turn g L (cellAt g a) (cellAt g b) (p .2))), back-touches a b (z .1) u)
-          | inr u ↦ inl (i, u)
-        ]
-
 -- ---- the pairs by lists, in any order
 -- a list has the core cells that its cell lists, and no others
 pub record Lists (g : Geometry) (lists : ℕ → List ℕ) : Type 0 where
@@ -258,33 +230,22 @@ module _ (g : Geometry) (lists : ℕ → List ℕ) where
         rw (meet-append byLowest touch (pairsWith g c (lists c)) (pairsBy g lists cs) l) (rows-stand touch cs (λ d i. below d (inr i))
         (row-stands g touch cellCount c (lists c) h (λ d i. exact .sound c d h i .0) (shorten-stands s c h)))
 
-    module _ (L : Lawful g) (trials : ℕ) (enough : cellCount * cellCount ≤ trials) (before : List (ℕ × ℕ)) (some : (a b : ℕ) → In (a, b) before → In (a, b) (pairsOf g)) where
+    module _ (trials : ℕ) (enough : cellCount * cellCount ≤ trials) (before : List (ℕ × ℕ)) (some : (a b : ℕ) → In (a, b) before → In (a, b) (pairsOf g)) where
       abbrev all : List (ℕ × ℕ)
       all = pairsBy g lists (numbers cellCount)
 
-      one-of : (a b : ℕ) → In (a, b) (before ++ all) → In (a, b) (pairsOf g)
-      one-of a b i = elim (in-append (a, b) before all i) [ inl j ↦ some a b j | inr j ↦ by-in a b j ]
-
-      to-links : (a b : ℕ) → Link (linkedAt g) (before ++ all) a b → Link (touchAt g) (pairsOf g) a b
-      to-links a b (inl i) = told-links g L a b (one-of a b (i .0)) (i .1)
-      to-links a b (inr i) = elim (told-links g L b a (one-of b a (i .0)) (i .1)) [ inl j ↦ inr j | inr j ↦ inl j ]
-
-      back-links : (a b : ℕ) → Link (touchAt g) (pairsOf g) a b → Link (linkedAt g) (before ++ all) a b
-      back-links a b (inl i) = inl (append-two (a, b) before all (in-by a b (i .0)), touch-linked g a b (i .1))
-      back-links a b (inr i) = inr (append-two (b, a) before all (in-by b a (i .0)), touch-linked g b a (i .1))
-
       -- some of the pairs and then all of them leave what enough trials leave
-      by-lowest : (x : ℕ) → meetAll byLowest (linkedAt g) all (meetAll byLowest (linkedAt g) before (λ c. c)) x ≡ lowestAt g trials x
+      by-lowest : (x : ℕ) → meetAll byLowest (touchAt g) all (meetAll byLowest (touchAt g) before (λ c. c)) x ≡ lowestAt g trials x
       unfolding lowestAt uniting
       by-lowest x =
-          ap (λ (l : ℕ → ℕ). l x) (sym (meet-append byLowest (linkedAt g) before all (λ c. c)))
-          ∙ any-order (linkedAt g) (touchAt g) (before ++ all) (pairsOf g) to-links back-links x
+          ap (λ (l : ℕ → ℕ). l x) (sym (meet-append byLowest (touchAt g) before all (λ c. c)))
+          ∙ any-order (touchAt g) (before ++ all) (pairsOf g) (λ a b i. elim (in-append (a, b) before all i) [ inl j ↦ some a b j | inr j ↦ by-in a b j ]) (λ a b i. append-two (a, b) before all (in-by a b i)) x
           ∙ ap (λ (l : ℕ → ℕ). l x) (sym (run-meets byLowest (touchAt g) trials 0 (pairsOf g) (λ c. c) (omega (arith, pairs-few g))))
 
-      pub lists-stand : Stands cellCount (lowestAt g trials) (meetLists g (linkedAt g) lists (numbers cellCount) (meetAll byOwnLeaders (linkedAt g) before (column (λ c. c) cellCount)))
+      pub lists-stand : Stands cellCount (lowestAt g trials) (meetLists g (touchAt g) lists (numbers cellCount) (meetAll byOwnLeaders (touchAt g) before (column (λ c. c) cellCount)))
       lists-stand =
           let within : Within cellCount before = λ a b i. let z = in-pairs g a b (some a b i) in (z .0, z .1) in
-          let s = rows-stand (linkedAt g) (numbers cellCount) (in-numbers cellCount) (all-stand (linkedAt g) cellCount before within (alone-stands cellCount)) in
+          let s = rows-stand (touchAt g) (numbers cellCount) (in-numbers cellCount) (all-stand (touchAt g) cellCount before within (alone-stands cellCount)) in
           record { falling = s .falling; size = s .size; roots = λ c h. s .roots c h ∙ by-lowest c }
 
 -- the lists that cells have are such

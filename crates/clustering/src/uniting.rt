@@ -21,7 +21,7 @@ ghost use Rattle.partitions.specs.Leaders.{Falling, root};
 ghost use Rattle.partitions.specs.Trials.{run, byLeaders};
 ghost use Rattle.clustering.specs.Clusters.{touches};
 ghost use Rattle.clustering.specs.Uniting.{pairAt, onePair, pairsWith, pairsOf, touchAt, stopped, progressOf, uniting, lowestAt};
-ghost use Rattle.clustering.specs.UniteAll.{backAt, linkedAt, meetAll, byOwnLeaders, meetLists};
+ghost use Rattle.clustering.specs.UniteAll.{meetAll, byOwnLeaders, meetLists};
 ghost use Rattle.clustering.specs.Close.{sortedCells, closeAt, closePair, closePairs};
 
 // With how many of those before it a sorted cell is taken, before any search.
@@ -220,51 +220,7 @@ pub fn unite_neighbouring_cells(
     p
 }
 
-// Whether cell c has many frames, and the first frame of d is core and has a non-zero count in the tree of c: then d touches c.
-fn asks_back(
-    points: &[i16],
-    v: ValidParams,
-    n: usize,
-    k: usize,
-    work: &[Word],
-    c: usize,
-    d: usize,
-) -> bool
-    requires { ⌜ Ready (now points) v n × Grown (geometryAt v n (now points)) k (now work) × (c < k) × (d < k) ⌝ }
-    ensures { λ r. ⌜ r ≡ backAt (geometryAt v n (now (points .entry))) c d ⌝ }
-{
-    if !core_cells::spans::has_many(work, n, k, c) {
-        return false;
-    }
-    let first = lists::word(work, n + d);
-    if !cells_grid::is_core(work, n, first) {
-        return false;
-    }
-    let root = core_cells::root_unless(false, points, v, n, k, work, c);
-    core_cells::reaches(points, v, n, k, work, first, c, false, root)
-}
-
-// Whether the pair of c and d is told to be linked: where c has many frames by the first frame of d, else since c touches d.
-// (All frames of c may have no count in the tree of d though that frame has one in c's: then d and c are linked, and that pair is taken too.)
-fn are_linked(
-    points: &[i16],
-    v: ValidParams,
-    n: usize,
-    k: usize,
-    work: &[Word],
-    c: usize,
-    d: usize,
-) -> bool
-    requires { ⌜ Ready (now points) v n × Grown (geometryAt v n (now points)) k (now work) × (c < k) × (d < k) ⌝ }
-    ensures { λ r. ⌜ r ≡ linkedAt (geometryAt v n (now (points .entry))) c d ⌝ }
-{
-    if asks_back(points, v, n, k, work, c, d) {
-        return true;
-    }
-    touches_cell(points, v, n, k, work, c, d)
-}
-
-// Takes a pair of cells: where they are in two sets and linked, makes one set of theirs.
+// Takes a pair of cells: where they are in two sets and c touches d, makes one set of theirs.
 // (Two cells that have one leader are in one set: this is asked first.)
 fn meet_cells(
     points: &[i16],
@@ -279,7 +235,7 @@ fn meet_cells(
     requires { ⌜ (7 * n ≤ length (now work)) × Falling (part (now work) (6 * n) k) ⌝ }
     requires { ⌜ T (pairAt (geometryAt v n (now points)) c d) ⌝ }
     ensures { λ _. ⌜ (let g = geometryAt v n (now (points .entry)) in now (work .exit) ≡ over (now (work .entry)) (6 * n)
-        (meetAll byOwnLeaders (linkedAt g) (onePair g c d) (part (now (work .entry)) (6 * n) k))) ⌝ }
+        (meetAll byOwnLeaders (touchAt g) (onePair g c d) (part (now (work .entry)) (6 * n) k))) ⌝ }
 {
     let a = LEADERS * n;
     if lists::word(work, a + c) == lists::word(work, a + d) {
@@ -289,7 +245,7 @@ fn meet_cells(
     if partitions::same_set(&mut work[a..e], c, d) {
         return;
     }
-    if are_linked(points, v, n, k, work, c, d) {
+    if touches_cell(points, v, n, k, work, c, d) {
         partitions::union(&mut work[a..e], c, d);
     }
 }
@@ -308,7 +264,7 @@ fn unite_list(
     requires { ⌜ (16 * n ≤ length (now work)) × Falling (part (now work) (6 * n) k) ⌝ }
     requires { ⌜ ((d : ℕ) → In d (part (now work) (15 * n) m) → (d < k) × T (pairAt (geometryAt v n (now points)) c d)) ⌝ }
     ensures { λ _. ⌜ (let g = geometryAt v n (now (points .entry)) in now (work .exit) ≡ over (now (work .entry)) (6 * n)
-        (meetAll byOwnLeaders (linkedAt g) (pairsWith g c (part (now (work .entry)) (15 * n) m)) (part (now (work .entry)) (6 * n) k))) ⌝ }
+        (meetAll byOwnLeaders (touchAt g) (pairsWith g c (part (now (work .entry)) (15 * n) m)) (part (now (work .entry)) (6 * n) k))) ⌝ }
 {
     let mut j = 0;
     while j < m {
@@ -324,7 +280,7 @@ fn unite_lists(points: &[i16], v: ValidParams, n: usize, k: usize, work: &mut [W
     requires { ⌜ Ready (now points) v n × Grown (geometryAt v n (now points)) k (now work) × CellsSorted v n (now points) (now work) ⌝ }
     requires { ⌜ (16 * n ≤ length (now work)) × Clear (now work) (15 * n) n × Falling (part (now work) (6 * n) k) ⌝ }
     ensures { λ _. ⌜ (let g = geometryAt v n (now (points .entry)) in now (work .exit) ≡ over (now (work .entry)) (6 * n)
-        (meetLists g (linkedAt g) (listOf v n (now (points .entry))) (numbers k) (part (now (work .entry)) (6 * n) k))) ⌝ }
+        (meetLists g (touchAt g) (listOf v n (now (points .entry))) (numbers k) (part (now (work .entry)) (6 * n) k))) ⌝ }
 {
     let a = LEADERS * n;
     let e = a + k;
@@ -381,7 +337,7 @@ fn meet_close(
     requires { ⌜ Ready (now points) v n × Grown (geometryAt v n (now points)) k (now work) × (later < k) × (earlier < k) ⌝ }
     requires { ⌜ (7 * n ≤ length (now work)) × Falling (part (now work) (6 * n) k) ⌝ }
     ensures { λ _. ⌜ now (work .exit) ≡ over (now (work .entry)) (6 * n)
-        (meetAll byOwnLeaders (linkedAt (geometryAt v n (now (points .entry)))) (closePair v n (now (points .entry)) later earlier) (part (now (work .entry)) (6 * n) k)) ⌝ }
+        (meetAll byOwnLeaders (touchAt (geometryAt v n (now (points .entry)))) (closePair v n (now (points .entry)) later earlier) (part (now (work .entry)) (6 * n) k)) ⌝ }
 {
     let a = LEADERS * n;
     if lists::word(work, a + later) == lists::word(work, a + earlier) {
@@ -402,7 +358,7 @@ fn meet_close(
 fn unite_close_cells(points: &[i16], v: ValidParams, n: usize, k: usize, work: &mut [Word])
     requires { ⌜ Ready (now points) v n × Grown (geometryAt v n (now points)) k (now work) × CellsSorted v n (now points) (now work) ⌝ }
     requires { ⌜ (16 * n ≤ length (now work)) × Falling (part (now work) (6 * n) k) ⌝ }
-    ensures { λ _. ⌜ now (work .exit) ≡ over (now (work .entry)) (6 * n) (meetAll byOwnLeaders (linkedAt (geometryAt v n (now (points .entry))))
+    ensures { λ _. ⌜ now (work .exit) ≡ over (now (work .entry)) (6 * n) (meetAll byOwnLeaders (touchAt (geometryAt v n (now (points .entry))))
         (closePairs v n (now (points .entry)) (sortedCells (now (work .entry)) n k)) (part (now (work .entry)) (6 * n) k)) ⌝ }
 {
     let turns = BACK * cells_grid::listing::sorted_count(work, n, k);

@@ -166,7 +166,7 @@ fn square_gap(a: Span, b: Span) -> u64
 }
 
 // Whether cell c has many frames.
-pub fn has_many(work: &[Word], n: usize, k: usize, c: usize) -> bool
+fn has_many(work: &[Word], n: usize, k: usize, c: usize) -> bool
     requires { ⌜ (c < k) × (k ≤ n) × (3 * n ≤ length (now work)) × (getD (now work) (2 * n + c) 0 ≤ endIn (now work) n k c) ⌝ }
     ensures { λ r. ⌜ r ≡ ltb many (endIn (now (work .entry)) n k c - getD (now (work .entry)) (2 * n + c) 0) ⌝ }
 {
