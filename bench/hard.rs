@@ -25,6 +25,9 @@ pub const KINDS: &[Kind] = &[
     kind("two cells between t and the far reach", 4, 2000.0, 4, between),
     kind("two diagonals out of reach", 2, 20000.0, 4, diagonal),
     kind("many diagonals out of reach", 2, 2000.0, 4, diagonals),
+    kind("4 clusters in a row, 1.06 t apart", 4, 500.0, 4, |rng, n| row(rng, n, 4)),
+    kind("16 clusters in a row, 1.06 t apart", 4, 500.0, 4, |rng, n| row(rng, n, 16)),
+    kind("64 clusters in a row, 1.06 t apart", 4, 500.0, 4, |rng, n| row(rng, n, 64)),
     kind("walls 1.04 t apart", 4, 1000.0, 4, walls),
     kind("a chain of cells", 1, 2.0, 2, chain),
     kind("uniform, t 65,535", 4, 65535.0, 4, uniform),
@@ -134,6 +137,17 @@ fn diagonals(rng: &mut Random, n: usize) -> Vec<i16> {
             let j = 1418.0 * rng.range(-8, 8) as f64;
             [count(j + u), count(j - u)]
         })
+        .collect()
+}
+
+/// So many clusters of 25 by 200 by 200 by 200 counts in a row, 530 apart.
+fn row(rng: &mut Random, n: usize, clusters: usize) -> Vec<i16> {
+    (0..n)
+        .flat_map(|i| {
+            let x = (i % clusters) as i64 * 555 - 17760 + rng.range(0, 25);
+            [x, rng.range(-100, 100), rng.range(-100, 100), rng.range(-100, 100)]
+        })
+        .map(|x| x as i16)
         .collect()
 }
 
