@@ -34,7 +34,7 @@ use Rattle.counting_tree.specs.SettledLaws.{settled-disjoint, settled-covered}
 use Rattle.cells_grid.specs.Cells.{node, count}
 use Rattle.cells_grid.specs.Lawful.{Lawful}
 use Rattle.cells_grid.specs.Ready.{ready-lawful}
-use Rattle.cells_grid.specs.CellLaws.{count-path}
+use Rattle.cells_grid.specs.CellLaws.{in-member, count-path}
 use Rattle.cells_grid.specs.Arrangement.{cellAt, Cored}
 use Rattle.cells_grid.specs.Places.{endIn}
 use Rattle.cells_grid.specs.ArrangementLaws.{arranged-below, words-count, cell-size, cell-end-le, cell-places}
@@ -176,7 +176,7 @@ module _ {ps : List ℤ} {v : ValidParams} {n k : ℕ} {w : List ℕ} {q c : ℕ
 
     pub test-open : told ≡ Intersecting → {from end : ℕ} → from ≡ getD w (2 * n + c) 0 → end ≡ endIn w n k c
         → (y : ℕ) → In y (part w (3 * n + from) (end - from)) → geometryAt v n ps .box q 0 y ≡ Intersecting
-    test-open z ef ee y i = one-root g L q (cellAt g c) Intersecting (tested z) y (subst (In y) (cell-places g L (C .cells) n e c (p .3) ef ee) i)
+    test-open z ef ee y i = one-root g L q (cellAt g c) Intersecting (tested z) y (in-member g (cellAt g c) y (subst (In y) (cell-places g L (C .cells) n e c (p .3) ef ee) i) .1)
 
   -- ---- its frames
   -- all at least as far as a number that is out of reach

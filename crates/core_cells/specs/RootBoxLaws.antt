@@ -22,9 +22,9 @@ use Rattle.counting_tree.specs.Paths.{reaches, path-disjoint, path-covered}
 use Rattle.counting_tree.specs.Arrays.{placed, boxOf}
 use Rattle.counting_tree.specs.Indexes.{placed-first, centres-length}
 use Rattle.counting_tree.specs.Ready.{geometryAt, Ready}
-use Rattle.cells_grid.specs.Cells.{members, coreMembers, coreCell, count}
+use Rattle.cells_grid.specs.Cells.{sameCell, coreMembers, coreCell, count}
 use Rattle.cells_grid.specs.Lawful.{Lawful}
-use Rattle.cells_grid.specs.CellLaws.{in-member, in-core, core-cell-frame, count-path}
+use Rattle.cells_grid.specs.CellLaws.{in-core, core-cell-frame, count-path}
 use Rattle.cells_grid.specs.Arrangement.{cellAt}
 use Rattle.core_cells.specs.RootBox.{rootBox}
 
@@ -34,21 +34,18 @@ module _ (g : Geometry) (L : Lawful g) (q i : ℕ) where
   path = reaches (g .box q) (g .levels) 0
 
   -- the frames of the cell have the same root box
-  pub one-root : (b : IntersectionType) → g .box q 0 i ≡ b → (x : ℕ) → In x (members g i) → g .box q 0 x ≡ b
-  one-root b e x j = sym (L .box-same q 0 i x (in-member g i x j .1)) ∙ e
-
-  alike : (b : IntersectionType) → g .box q 0 i ≡ b → (x : ℕ) → In x (coreMembers g i) → g .box q 0 x ≡ b
-  alike b e x j = sym (L .box-same q 0 i x (in-core g i x j .2)) ∙ e
+  pub one-root : (b : IntersectionType) → g .box q 0 i ≡ b → (x : ℕ) → T (sameCell g i x) → g .box q 0 x ≡ b
+  one-root b e x s = sym (L .box-same q 0 i x s) ∙ e
 
   pub disjoint-count : g .box q 0 i ≡ Disjoint → nonzero (count g q i) ≡ false
   disjoint-count e =
       count-path g L q i
-      ∙ any-none path (coreMembers g i) (λ x j t. rw (path-disjoint (g .box q) x (g .levels) 0 (alike Disjoint e x j)) at t)
+      ∙ any-none path (coreMembers g i) (λ x j t. rw (path-disjoint (g .box q) x (g .levels) 0 (one-root Disjoint e x (in-core g i x j .2))) at t)
 
   pub covered-count : g .box q 0 i ≡ FullyCovered → T (coreCell g i) → nonzero (count g q i) ≡ true
   covered-count e t =
       let z = core-cell-frame g i t in
-      let p = true-T (path-covered (g .box q) (z .0) (g .levels) 0 (alike FullyCovered e (z .0) (z .1))) in
+      let p = true-T (path-covered (g .box q) (z .0) (g .levels) 0 (one-root FullyCovered e (z .0) (in-core g i (z .0) (z .1) .2))) in
       count-path g L q i ∙ T-true (any path (coreMembers g i)) (any-in path (z .0) (coreMembers g i) (z .1) p)
 
 -- ---- its centre

@@ -8,6 +8,7 @@ use cells_grid::STARTS;
 use cells_grid::listing::TREES;
 use counting_tree::Box;
 use counting_tree::IntersectionType;
+use hyperparams::MAX_FRAMES;
 use hyperparams::ValidParams;
 use lists::Word;
 use tree_structure::Counted;
@@ -46,9 +47,6 @@ const NODES: usize = 16;
 
 // A cell with at most so many core frames has no tree in a run: its frames' own paths are taken.
 const PATHS: usize = 64;
-
-// As many as a run can have.
-const ALL: usize = 4096;
 
 // In a cell with at most so many frames these are asked before its root box, unless s is 0.
 const FEW: usize = 2;
@@ -125,10 +123,10 @@ pub fn path_limit(s: usize, k: usize) -> usize
     ensures { λ r. ⌜ r ≡ pathLimit (levels s) k ⌝ }
 {
     if s == 0 {
-        return ALL;
+        return MAX_FRAMES;
     }
     if k <= 1 {
-        return ALL;
+        return MAX_FRAMES;
     }
     PATHS
 }
@@ -442,7 +440,7 @@ fn told_by(
 }
 
 // The same by the tree, where it is built; else by what the frames of the cell, or its root box, settle, and then by paths.
-// (All frames of a cell that has a tree would take longer than the tree.)
+// (With a small s a tree has few boxes, and tells sooner than more than 64 frames do; with a large one the spans tell most cells apart.)
 fn reaches_second(
     frames: bool,
     points: &[i16],

@@ -9,6 +9,7 @@ use native.Mathlib.Omega.{arith, by-contra}
 use lib.Dec.{T}
 use lib.ListN.{length}
 use lib.Ieee.{Float, binary64, add, sub, lt}
+use Rattle.lists.specs.Lists.{total}
 use Rattle.ring.specs.Ring.{poly, done}
 use Rattle.ring.specs.Order.{belowℕ, num, slackℕ, _⊞_, _⊠_}
 use Rattle.ring.specs.Nat.{sq-le-back}
@@ -25,23 +26,22 @@ abbrev grown : ℕ → List ℕ → List ℕ
 grown H [] = []
 grown H (u ∷ us) = (u + H) ∷ grown H us
 
-abbrev total : List ℕ → ℕ
-total [] = 0
-total (u ∷ us) = u + total us
+abbrev sum : List ℕ → ℕ
+sum us = total (λ u. u) us
 
-squares-total : (us : List ℕ) → squares us ≤ total us * total us
-squares-total [] = omega arith
-squares-total (u ∷ us) = belowℕ (u ∷ squares us ∷ total us ∷ []) (slackℕ (squares-total us) ⊞ num (2 * (u * total us))) (search poly depth 30) done
+squares-sum : (us : List ℕ) → squares us ≤ sum us * sum us
+squares-sum [] = omega arith
+squares-sum (u ∷ us) = belowℕ (u ∷ squares us ∷ sum us ∷ []) (slackℕ (squares-sum us) ⊞ num (2 * (u * sum us))) (search poly depth 30) done
 
-squares-grown : (H : ℕ) (us : List ℕ) → squares us + 2 * (H * total us) ≤ squares (grown H us)
+squares-grown : (H : ℕ) (us : List ℕ) → squares us + 2 * (H * sum us) ≤ squares (grown H us)
 squares-grown H [] = omega arith
-squares-grown H (u ∷ us) = belowℕ (H ∷ u ∷ squares us ∷ total us ∷ squares (grown H us) ∷ []) (slackℕ (squares-grown H us) ⊞ num (H * H)) (search poly depth 30) done
+squares-grown H (u ∷ us) = belowℕ (H ∷ u ∷ squares us ∷ sum us ∷ squares (grown H us) ∷ []) (slackℕ (squares-grown H us) ⊞ num (H * H)) (search poly depth 30) done
 
 -- a list of length M or more is then of length M + H or more: the sum of its places is at least M
 long-grown : (M H u : ℕ) (us : List ℕ) → M * M ≤ squares (u ∷ us) → (M + H) * (M + H) ≤ squares (grown H (u ∷ us))
 long-grown M H u us h =
-    let m : M ≤ u + total us = sq-le-back M (u + total us) (le-trans h (squares-total (u ∷ us))) in
-    belowℕ (M ∷ H ∷ u ∷ squares us ∷ total us ∷ squares (grown H us) ∷ []) (slackℕ h ⊞ num (2 * H) ⊠ slackℕ m ⊞ slackℕ (squares-grown H us)) (search poly depth 30) done
+    let m : M ≤ u + sum us = sq-le-back M (u + sum us) (le-trans h (squares-sum (u ∷ us))) in
+    belowℕ (M ∷ H ∷ u ∷ squares us ∷ sum us ∷ squares (grown H us) ∷ []) (slackℕ h ⊞ num (2 * H) ⊠ slackℕ m ⊞ slackℕ (squares-grown H us)) (search poly depth 30) done
 
 -- ---- one channel: q = a - b, the centre e - f at the gap m, the ends g - h and g' - h'; the end away from q is beyond the point that lies just H from the centre
 outward : (a b e f g h g' h' m n n' H t : ℕ)
