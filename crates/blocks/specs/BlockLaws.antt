@@ -137,7 +137,7 @@ module _ (reach : ℕ) where
   w = width reach
 
   -- the two edges that a count within the reach of x can have
-  two-edges : (x y : ℕ) → (x - y) + (y - x) ≤ reach → (edge w y ≡ edge w (x - reach)) ⊎ (edge w y ≡ edge w (x - reach) + w)
+  pub two-edges : (x y : ℕ) → (x - y) + (y - x) ≤ reach → (edge w y ≡ edge w (x - reach)) ⊎ (edge w y ≡ edge w (x - reach) + w)
   two-edges x y h = elim (T-or-not (leb (edge w (x - reach) + w) y)) [
     | inl t ↦ inr (edge-is w p (edge w (x - reach) + w) y (add-mod-right (edge w (x - reach)) w ∙ edge-multiple w p (x - reach)) (leb→le (edge w (x - reach) + w) y t) (high x y (edge w (x - reach)) h (edge-above w p (x - reach))))
     | inr f ↦ inl (edge-is w p (edge w (x - reach)) y (edge-multiple w p (x - reach)) (low x y (edge w (x - reach)) h (edge-le w p (x - reach))) (nleb→lt (edge w (x - reach) + w) y f))
