@@ -47,7 +47,7 @@ module _ {reach : ℕ} {v : ValidParams} {n : ℕ} {ps : List ℤ} {i : ℕ} {fi
   pub rows-row : (r : ℕ) → shifted (width reach) (take (v .channels - 1) (drop 1 first)) r ≡ rowAround reach v n ps i r
   rows-row r = ap (λ (l : List ℕ). shifted (width reach) l r) (ap (λ (l : List ℕ). take (v .channels - 1) (drop 1 l)) (R .begin) ∙ array-row (width reach) reach F frame-long (R .ready .settings .scale .most))
 
-  rows-long : length first ≡ 4
+  pub rows-long : length first ≡ 4
   rows-long = ap length (R .begin) ∙ over-length (replicate {A = ℕ} 4 0) 0 (edgesOf (width reach) reach F) (omega (arith, length-map F (λ c. edge (width reach) (raise c - reach)), frame-long, R .ready .settings .scale .most))
 
   pub rows-low : {a : ℕ} → a ≡ getD first 0 0 / width reach → a < 65536

@@ -104,6 +104,10 @@ module _ (reach : ℕ) (v : ValidParams) (n : ℕ) (ps : List ℤ) where
   abbrev pub rowAround : ℕ → ℕ → List ℕ
   rowAround i r = shifted (width reach) (edgesOf (width reach) reach (drop 1 (frameAt i))) r
 
+  -- which of these frame i lies in itself
+  unfoldable pub ownRow : ℕ → ℕ
+  ownRow i = ownBlock (width reach) (edgesOf (width reach) reach (drop 1 (frameAt i))) (drop 1 (frameAt i))
+
   -- ---- `size` buckets
   module _ (size : ℕ) where
     -- the first of the two buckets in which the blocks of row r around frame i fall

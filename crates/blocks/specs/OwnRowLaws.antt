@@ -1,21 +1,22 @@
 -- Laws of the row in which a frame lies itself. Of two frames within the reach, the one finds the other in a row after its own exactly if the other finds it in a row before its own: so each pair is found once by a search from the own row on.
-use mathlib.Core.Path.{_≡_, refl, ap, ap₂, _∙_}
+use mathlib.Core.Path.{_≡_, refl, sym, ap, ap₂, _∙_}
 use mathlib.Core.Logic.{_⊎_, inl, inr}
-use mathlib.Core.Bool.{Bool, true, false, cond}
-use mathlib.Core.List.{List, [], _∷_, _++_}
-use Prim.Native.Nat.{ℕ, _+_, _-_, _*_, _<_, _≤_}
+use mathlib.Core.Bool.{cond}
+use mathlib.Core.List.{List, [], _∷_, _++_, append-nil}
+use Prim.Native.Nat.{ℕ, _+_, _-_, _*_, _^_, _<_, _≤_}
 use native.Mathlib.Nat.{add-mul, eq-of-mul-eq-mul-right}
 use native.Mathlib.Omega.{arith}
 use lib.IntN.{ℤ}
-use lib.Dec.{leb, eqb}
+use lib.Dec.{eqb}
 use lib.ListN.{length, drop, replicate}
 use borrow.Author.Tests.{eq-eqb, ne-eqb, le-leb, lt-leb}
 use Rattle.lists.specs.Words.{over}
 use Rattle.hyperparams.specs.declared.ValidParams.{ValidParams}
-use Rattle.counting_tree.specs.Frames.{Frame}
-use Rattle.blocks.specs.Blocks.{raise, width, edge, edgesOf, second, ownBlock, frameAt}
+use Rattle.counting_tree.specs.Frames.{Frame, squared}
+use Rattle.blocks.specs.Blocks.{raise, width, edge, edgesOf, second, ownBlock, frameAt, ownRow}
 use Rattle.blocks.specs.BlockLaws.{Within, which, two-edges, edge-le, edge-above}
 use Rattle.blocks.specs.AroundLaws.{Rows}
+use Rattle.blocks.specs.RowLaws.{long, row-low, apart-first, near-within}
 
 module _ (reach : ℕ) where
   abbrev w : ℕ
@@ -46,12 +47,12 @@ module _ (reach : ℕ) where
       let y = raise b in
       let p : 0 < 2 * reach + 1 = omega arith in
       let c = bits-turn (edge w x) (edge w y) (edge w (x - reach)) (edge w (y - reach)) w
-          (cond (eqb (edge w y) (edge w (x - reach))) 0 1) (cond (eqb (edge w x) (edge w (y - reach))) 0 1)
-          (cond (eqb (edge w x) (edge w (x - reach))) 0 1) (cond (eqb (edge w y) (edge w (y - reach))) 0 1) p
-          (bit-edge (edge w y) (edge w (x - reach)) w p (two-edges reach x y (t .0)))
-          (bit-edge (edge w x) (edge w (y - reach)) w p (two-edges reach y x (turned x y (t .0))))
-          (bit-edge (edge w x) (edge w (x - reach)) w p (two-edges reach x x (same x)))
-          (bit-edge (edge w y) (edge w (y - reach)) w p (two-edges reach y y (same y))) in
+      (cond (eqb (edge w y) (edge w (x - reach))) 0 1) (cond (eqb (edge w x) (edge w (y - reach))) 0 1)
+      (cond (eqb (edge w x) (edge w (x - reach))) 0 1) (cond (eqb (edge w y) (edge w (y - reach))) 0 1) p
+      (bit-edge (edge w y) (edge w (x - reach)) w p (two-edges reach x y (t .0)))
+      (bit-edge (edge w x) (edge w (y - reach)) w p (two-edges reach y x (turned x y (t .0))))
+      (bit-edge (edge w x) (edge w (x - reach)) w p (two-edges reach x x (same x)))
+      (bit-edge (edge w y) (edge w (y - reach)) w p (two-edges reach y y (same y))) in
       omega (arith, c, which-turn f g (t .1))
 
   -- the program's own row is that row
@@ -73,7 +74,26 @@ module _ (reach : ℕ) where
   own-rest [] = none (drop 1 (over (replicate 4 0) 0 (edgesOf w reach [])))
   own-rest (a ∷ f) = own-is f (drop (0 + length (edgesOf w reach (a ∷ f))) (replicate 4 0))
 
--- which of the rows around frame i it lies in itself, by the array of edges
+-- ---- the rows around a frame of the points
+pub own-which : (reach : ℕ) (v : ValidParams) (n : ℕ) (ps : List ℤ) (i : ℕ) → ownRow reach v n ps i ≡ which reach (drop 1 (frameAt reach v n ps i)) (drop 1 (frameAt reach v n ps i))
+unfolding ownRow
+own-which reach v n ps i =
+    let f = drop 1 (frameAt reach v n ps i) in
+    ap (λ (l : List ℕ). ownBlock (width reach) l f) (sym (append-nil (edgesOf (width reach) reach f))) ∙ own-is reach f []
+
+-- the row of frame i itself, by the array of edges
 pub rows-own : {reach : ℕ} {v : ValidParams} {n : ℕ} {ps : List ℤ} {i : ℕ} {first : List ℕ} → Rows reach v n ps i first
-    → ownBlock (width reach) (drop 1 first) (drop 1 (frameAt reach v n ps i)) ≡ which reach (drop 1 (frameAt reach v n ps i)) (drop 1 (frameAt reach v n ps i))
-rows-own {reach} {v} {n} {ps} {i} R = ap (λ (l : List ℕ). ownBlock (width reach) (drop 1 l) (drop 1 (frameAt reach v n ps i))) (R .begin) ∙ own-rest reach (frameAt reach v n ps i)
+    → ownBlock (width reach) (drop 1 first) (drop 1 (frameAt reach v n ps i)) ≡ ownRow reach v n ps i
+rows-own {reach} {v} {n} {ps} {i} R = ap (λ (l : List ℕ). ownBlock (width reach) (drop 1 l) (drop 1 (frameAt reach v n ps i))) (R .begin) ∙ own-rest reach (frameAt reach v n ps i) ∙ sym (own-which reach v n ps i)
+
+module _ (reach : ℕ) (v : ValidParams) (n : ℕ) (ps : List ℤ) (room : n * v .channels ≤ length ps) (some : 1 ≤ v .channels) where
+  pub own-row-low : (i : ℕ) → i < n → ownRow reach v n ps i < 2 ^ (v .channels - 1)
+  own-row-low i h = omega (arith, own-which reach v n ps i, row-low reach v n ps room some i h i)
+
+  -- of two frames within the reach, what the one finds the other after its own row, the other finds it before
+  pub rows-turn : (i j : ℕ) → i < n → j < n → squared (frameAt reach v n ps i) (frameAt reach v n ps j) ≤ reach * reach
+      → which reach (drop 1 (frameAt reach v n ps i)) (drop 1 (frameAt reach v n ps j)) + which reach (drop 1 (frameAt reach v n ps j)) (drop 1 (frameAt reach v n ps i)) ≡ ownRow reach v n ps i + ownRow reach v n ps j
+  rows-turn i j h k q =
+      let F = frameAt reach v n ps in
+      which-turn reach (drop 1 (F i)) (drop 1 (F j)) (apart-first reach v n ps room some (F i) (F j) (omega (arith, long reach v n ps room some i h)) (near-within reach v n ps room some i j h k q) .1)
+      ∙ sym (ap₂ _+_ (own-which reach v n ps i) (own-which reach v n ps j))

@@ -14,9 +14,10 @@ use borrow.Author.Tests.{eq-eqb, ne-eqb}
 use Rattle.lists.specs.Lists.{numbers, keep, In}
 use Rattle.lists.specs.Buckets.{bucket}
 use Rattle.lists.specs.Sorting.{numbered}
-use Rattle.lists.specs.ListLaws.{T-true, true-T, and-left, and-right, in-keep, in-append, keep-same, in-numbers, numbers-in}
+use Rattle.lists.specs.ListLaws.{T-true, true-T, and-left, and-right, and-both, in-keep, keep-in, in-append, keep-same, in-numbers, numbers-in}
 use Rattle.lists.specs.CountLaws.{keep-append, keep-keep}
 use Rattle.lists.specs.OrderLaws.{numbers-ascending}
+use Rattle.lists.specs.PermLaws.{perm-same}
 use Rattle.hyperparams.specs.declared.ValidParams.{ValidParams}
 use Rattle.counting_tree.specs.Frames.{Frame, squared}
 use Rattle.counting_tree.specs.FramesIn.{frame-length}
@@ -132,19 +133,22 @@ module _ (reach : ℕ) (v : ValidParams) (n : ℕ) (ps : List ℤ) (room : n * v
   abbrev R : ℕ
   R = 2 ^ (v .channels - 1)
 
-  long : (i : ℕ) → i < n → length (F i) ≡ v .channels
+  pub long : (i : ℕ) → i < n → length (F i) ≡ v .channels
   long i h = frame-length n (v .channels) ps i room h
 
   rest-long : (i : ℕ) → i < n → length (drop 1 (F i)) ≡ v .channels - 1
   rest-long i h = length-drop 1 (F i) ∙ ap (λ (z : ℕ). z - 1) (long i h)
 
+  pub row-low : (i : ℕ) → i < n → (j : ℕ) → which reach (drop 1 (frameAt reach v n ps i)) (drop 1 (frameAt reach v n ps j)) < 2 ^ (v .channels - 1)
+  row-low i h j = subst (λ (d : ℕ). which reach (drop 1 (F i)) (drop 1 (F j)) < 2 ^ d) (rest-long i h) (which-below reach (drop 1 (F i)) (drop 1 (F j)))
+
   -- of frames within the reach, the counts of channel 0 and of the others are
-  apart-first : (f g : Frame) → 1 ≤ length f → Within reach f g → ((raise (getD f 0 (pos 0)) - raise (getD g 0 (pos 0))) + (raise (getD g 0 (pos 0)) - raise (getD f 0 (pos 0))) ≤ reach) × Within reach (drop 1 f) (drop 1 g)
+  pub apart-first : (f g : Frame) → 1 ≤ length f → Within reach f g → ((raise (getD f 0 (pos 0)) - raise (getD g 0 (pos 0))) + (raise (getD g 0 (pos 0)) - raise (getD f 0 (pos 0))) ≤ reach) × Within reach (drop 1 f) (drop 1 g)
   apart-first [] g l t = absurd (omega arith)
   apart-first (a ∷ f) [] l t = absurd t
   apart-first (a ∷ f) (b ∷ g) l t = t
 
-  near-within : (i j : ℕ) → i < n → j < n → squared (F i) (F j) ≤ reach * reach → Within reach (F i) (F j)
+  pub near-within : (i j : ℕ) → i < n → j < n → squared (F i) (F j) ≤ reach * reach → Within reach (F i) (F j)
   near-within i j h k q = within-of reach (F i) (F j) (long i h ∙ sym (long j k)) q
 
   module _ (size : ℕ) (at : ℕ → ℕ) (p : ℕ → Bool) (m : ℕ) (several : 1 < size) (inside : (x : ℕ) → x < m → at x < n) where
@@ -212,6 +216,20 @@ module _ (reach : ℕ) (v : ValidParams) (n : ℕ) (ps : List ℤ) (room : n * v
             let s = near-within i (at x) h (inside x l) (near x l (and-left (p x) (f x) t) (and-right (p x) (f x) t)) in
             which-is reach (drop 1 (F i)) (drop 1 (F (at x))) r (apart-first (F i) (F (at x)) (omega (arith, long i h)) s .1) (subst (λ (d : ℕ). r < 2 ^ d) (sym (rest-long i h)) k)
 
+        -- what is found in a row passes
+        pub in-found : (r x : ℕ) → In x (foundIn reach v n ps size at p m i f r) → (x < m) × T (p x) × T (f x)
+        in-found r x j =
+            let z = in-keep (λ y. K r y && P y) x (numbers m) (perm-same (row-all r) x .0 j) in
+            let t = and-right (K r x) (P x) (z .1) in
+            (in-numbers m x (z .0), and-left (p x) (f x) t, and-right (p x) (f x) t)
+
+        -- and each that passes is found in its row
+        pub found-in : (x : ℕ) → x < m → T (p x) → T (f x) → In x (foundIn reach v n ps size at p m i f (which reach (drop 1 (frameAt reach v n ps i)) (drop 1 (frameAt reach v n ps (at x)))))
+        found-in x l s t =
+            let r = which reach (drop 1 (F i)) (drop 1 (F (at x))) in
+            let b = and-both (p x) (f x) s t in
+            perm-same (row-all r) x .1 (keep-in (λ y. K r y && P y) x (numbers m) (numbers-in m x l) (and-both (K r x) (P x) (true-T (in-one x r l b (row-low i h (at x)) ∙ eq-eqb r r refl)) b))
+
         -- all that pass, each once
         pub found-order : List·Permᴰ (found reach v n ps size at p m i f) (keep (λ x. p x && f x) (numbers m))
         unfolding found
@@ -222,7 +240,7 @@ module _ (reach : ℕ) (v : ValidParams) (n : ℕ) (ps : List ℤ) (room : n * v
             (keep-same (λ x. K r x && P x) (λ x. P x && eqb (which reach (drop 1 (F i)) (drop 1 (F (at x)))) r) (numbers m) (λ x j. turn (K r x) (eqb (which reach (drop 1 (F i)) (drop 1 (F (at x)))) r) (P x) (λ t. in-one x r (in-numbers m x j) t (in-numbers R r k))))
             (row-all r)))
             (by-values (λ x. which reach (drop 1 (F i)) (drop 1 (F (at x)))) P (numbers R) (numbers m) (numbers-ascending R)
-            (λ x j t. numbers-in R (which reach (drop 1 (F i)) (drop 1 (F (at x)))) (subst (λ (d : ℕ). which reach (drop 1 (F i)) (drop 1 (F (at x))) < 2 ^ d) (rest-long i h) (which-below reach (drop 1 (F i)) (drop 1 (F (at x)))))))
+            (λ x j t. numbers-in R (which reach (drop 1 (F i)) (drop 1 (F (at x)))) (row-low i h (at x))))
           where
             turn : (s e t : Bool) → (T t → s ≡ e) → s && t ≡ t && e
             turn s e true q = and-true s ∙ q tt

@@ -8,7 +8,7 @@ use native.Mathlib.Omega.{arith}
 use lib.IntN.{ℤ, pos}
 use lib.Dec.{eqb}
 use lib.ListN.{length, getD, set, take, drop, length-append}
-use borrow.Author.Tests.{eq-eqb, ne-eqb}
+use borrow.Author.Tests.{eq-eqb, ne-eqb, le-leb, lt-leb}
 use Rattle.lists.specs.Lists.{keep, In}
 use Rattle.lists.specs.Words.{over, part}
 use Rattle.lists.specs.Sorting.{numbered}
@@ -27,7 +27,7 @@ use Rattle.cells_grid.specs.Cells.{cells}
 use Rattle.cells_grid.specs.Arrangement.{cellAt, Arranged}
 use Rattle.cells_grid.specs.Ready.{ready-lawful}
 use Rattle.cells_grid.specs.ArrangementLaws.{words-room, first-word, first-word-low, arranged-over}
-use Rattle.cells_grid.specs.Listing.{reachOf, unmarked, cellKey, nearIn, listIn, CellsSorted}
+use Rattle.cells_grid.specs.Listing.{reachOf, unmarked, cellKey, nearAt, nearIn, listIn, CellsSorted}
 use Rattle.cells_grid.specs.ListingLaws.{unmarked-more, unmarked-append, unmarked-over, few, in-below, cells-sorted-over, sorted-cell}
 
 module _ {v : ValidParams} {n : ℕ} {ps : List ℤ} {i : ℕ} {first : List ℕ} (R : Rows (reachOf v) v n ps i first) where
@@ -43,41 +43,45 @@ module _ {v : ValidParams} {n : ℕ} {ps : List ℤ} {i : ℕ} {first : List ℕ
       pub found-below : j < n
       found-below = omega (arith, e, first-word-low (geometryAt v n ps) (ready-lawful (R .ready)) A n (at-frames v n ps) d h)
 
-    module _ (r marks mark : ℕ) {x : ℕ} (q : x ≡ getD w (marks + d) 0) where
-      pub found-marked : x ≡ mark → false ≡ not (eqb (getD w (marks + d) 0) mark) && nearIn v n ps i r d
-      found-marked m = sym (ap (λ (z : Bool). not z && nearIn v n ps i r d) (eq-eqb (getD w (marks + d) 0) mark (sym q ∙ m)))
+    module _ (after r marks mark : ℕ) {x : ℕ} (q : x ≡ getD w (marks + d) 0) where
+      pub found-marked : x ≡ mark → false ≡ not (eqb (getD w (marks + d) 0) mark) && nearIn v n ps i after r d
+      found-marked m = sym (ap (λ (z : Bool). not z && nearIn v n ps i after r d) (eq-eqb (getD w (marks + d) 0) mark (sym q ∙ m)))
 
-      module _ (m : x ≡ mark → ⊥) {j : ℕ} (e : j ≡ getD w (n + d) 0) {t : Bool} (l : t ≡ geometryAt v n ps .near i j) where
-        abbrev S : Bool
-        S = sameNats (rowOf (reachOf v) v n ps (cellAt (geometryAt v n ps) d)) (rowAround (reachOf v) v n ps i r)
+      abbrev S : Bool
+      S = sameNats (rowOf (reachOf v) v n ps (cellAt (geometryAt v n ps) d)) (rowAround (reachOf v) v n ps i r)
 
-        unless : {b : Bool} → b ≡ S && t → b ≡ not (eqb (getD w (marks + d) 0) mark) && nearIn v n ps i r d
+      pub found-before : (x ≡ mark → ⊥) → d < after → false ≡ not (eqb (getD w (marks + d) 0) mark) && nearIn v n ps i after r d
+      found-before m a = sym (ap (λ (z : Bool). not (eqb (getD w (marks + d) 0) mark) && (S && (z && nearAt v n ps i d))) (lt-leb after d a)
+          ∙ ap (λ (z : Bool). not (eqb (getD w (marks + d) 0) mark) && z) (and-false S) ∙ and-false (not (eqb (getD w (marks + d) 0) mark)))
+
+      module _ (m : x ≡ mark → ⊥) (a : after ≤ d) {j : ℕ} (e : j ≡ getD w (n + d) 0) {t : Bool} (l : t ≡ geometryAt v n ps .near i j) where
+        unless : {b : Bool} → b ≡ S && t → b ≡ not (eqb (getD w (marks + d) 0) mark) && nearIn v n ps i after r d
         unless k = k
-            ∙ ap (λ (z : Bool). S && z) (l ∙ ap (geometryAt v n ps .near i) (first-is e))
-            ∙ sym (ap (λ (z : Bool). not z && nearIn v n ps i r d) (ne-eqb (getD w (marks + d) 0) mark (λ y. m (q ∙ y))))
+            ∙ ap (λ (z : Bool). S && z) (l ∙ ap (geometryAt v n ps .near i) (first-is e) ∙ sym (ap (λ (z : Bool). z && nearAt v n ps i d) (le-leb after d a)))
+            ∙ sym (ap (λ (z : Bool). not z && nearIn v n ps i after r d) (ne-eqb (getD w (marks + d) 0) mark (λ y. m (q ∙ y))))
 
         pub found-near : t ≡ true → {a : ℕ} {b : Bool} → a ≡ width (reachOf v) → b ≡ sameNats (keyOf a (drop 1 (frameAt (reachOf v) v n ps j))) (shifted a (take (v .channels - 1) (drop 1 first)) r)
-            → b ≡ not (eqb (getD w (marks + d) 0) mark) && nearIn v n ps i r d
+            → b ≡ not (eqb (getD w (marks + d) 0) mark) && nearIn v n ps i after r d
         found-near k {a} {b} y s = unless (s
             ∙ ap (λ (z : ℕ). sameNats (keyOf z (drop 1 (frameAt (reachOf v) v n ps j))) (shifted z (take (v .channels - 1) (drop 1 first)) r)) y
             ∙ ap₂ (λ (u : ℕ) (l : List ℕ). sameNats (rowOf (reachOf v) v n ps u) l) (first-is e) (rows-row R r)
             ∙ sym (ap (λ (z : Bool). S && z) k ∙ and-true S))
 
-        pub found-far : t ≡ false → false ≡ not (eqb (getD w (marks + d) 0) mark) && nearIn v n ps i r d
+        pub found-far : t ≡ false → false ≡ not (eqb (getD w (marks + d) 0) mark) && nearIn v n ps i after r d
         found-far k = unless (sym (ap (λ (z : Bool). S && z) k ∙ and-false S))
 
 -- ---- a stretch
 module _ (v : ValidParams) (n : ℕ) (ps : List ℤ) where
-  -- of the sorted cells from `a` up to `b` those that lie in row r around frame i, and near it
-  abbrev pub nearBy : ℕ → ℕ → List ℕ → (a b : ℕ) → List ℕ
-  nearBy i r w a b = keep (nearIn v n ps i r) (part w (14 * n + a) (b - a))
+  -- of the sorted cells from `a` up to `b` those with numbers from `after` on that lie in row r around frame i, and near it
+  abbrev pub nearBy : (i after r : ℕ) → List ℕ → (a b : ℕ) → List ℕ
+  nearBy i after r w a b = keep (nearIn v n ps i after r) (part w (14 * n + a) (b - a))
 
   -- and of these the unmarked ones
-  abbrev pub stretch : ℕ → ℕ → List ℕ → (marks mark a b : ℕ) → List ℕ
-  stretch i r w marks mark a b = unmarked w marks mark (nearBy i r w a b)
+  abbrev pub stretch : (i after r : ℕ) → List ℕ → (marks mark a b : ℕ) → List ℕ
+  stretch i after r w marks mark a b = unmarked w marks mark (nearBy i after r w a b)
 
   -- they are listed from place m of the list on
-  pub record Search (i r marks mark m a b : ℕ) (w₀ : List ℕ) : Type 0 where
+  pub record Search (i after r marks mark m a b : ℕ) (w₀ : List ℕ) : Type 0 where
     pub ready : Ready ps v n
     pub arranged : Arranged (geometryAt v n ps) (length (cells (geometryAt v n ps))) w₀
     pub sorted : CellsSorted v n ps w₀
@@ -85,37 +89,37 @@ module _ (v : ValidParams) (n : ℕ) (ps : List ℤ) where
     pub apart : marks + n ≤ 10 * n
     pub low : a ≤ b
     pub high : b ≤ length (cells (geometryAt v n ps))
-    pub room : m + length (stretch i r w₀ marks mark a b) ≤ n
+    pub room : m + length (stretch i after r w₀ marks mark a b) ≤ n
 
   -- the walk stands before p: the cells `done` are listed
-  pub record Walking (i r marks mark m a b : ℕ) (w₀ w : List ℕ) (to p : ℕ) : Type 0 where
+  pub record Walking (i after r marks mark m a b : ℕ) (w₀ w : List ℕ) (to p : ℕ) : Type 0 where
     pub reached : p ≤ b
     pub done : List ℕ
     pub count : to ≡ m + length done
     pub laid : w ≡ over w₀ (15 * n + m) done
-    pub left : done ++ stretch i r w₀ marks mark p b ≡ stretch i r w₀ marks mark a b
+    pub left : done ++ stretch i after r w₀ marks mark p b ≡ stretch i after r w₀ marks mark a b
 
   -- of a row the cells `done` are looked at, and of these the unmarked ones listed; left are those from `a` up to `b`, and after them those up to `rest`
-  pub record InRow (i r marks mark m : ℕ) (w₀ w : List ℕ) (a b rest more : ℕ) : Type 0 where
+  pub record InRow (i after r marks mark m : ℕ) (w₀ w : List ℕ) (a b rest more : ℕ) : Type 0 where
     pub low : a ≤ b
     pub high : b ≤ length (cells (geometryAt v n ps))
     pub rest-low : rest ≤ b
     pub done : List ℕ
     pub count : more ≡ m + length (unmarked w₀ marks mark done)
     pub laid : w ≡ over w₀ (15 * n + m) (unmarked w₀ marks mark done)
-    pub left : done ++ (nearBy i r w₀ a b ++ nearBy i r w₀ 0 rest) ≡ listIn v n ps i r
+    pub left : done ++ (nearBy i after r w₀ a b ++ nearBy i after r w₀ 0 rest) ≡ listIn v n ps i after r
 
-module _ {v : ValidParams} {n : ℕ} {ps : List ℤ} {i r marks mark m a b : ℕ} {w₀ : List ℕ} (S : Search v n ps i r marks mark m a b w₀) where
+module _ {v : ValidParams} {n : ℕ} {ps : List ℤ} {i after r marks mark m a b : ℕ} {w₀ : List ℕ} (S : Search v n ps i after r marks mark m a b w₀) where
   abbrev all : List ℕ
-  all = stretch v n ps i r w₀ marks mark a b
+  all = stretch v n ps i after r w₀ marks mark a b
 
   abbrev coming : ℕ → List ℕ
-  coming p = stretch v n ps i r w₀ marks mark p b
+  coming p = stretch v n ps i after r w₀ marks mark p b
 
-  pub walking-start : Walking v n ps i r marks mark m a b w₀ w₀ m a
+  pub walking-start : Walking v n ps i after r marks mark m a b w₀ w₀ m a
   walking-start = record { reached = S .low; done = []; count = omega arith; laid = sym (over-nil w₀ (15 * n + m)); left = refl }
 
-  module _ {w : List ℕ} {to p : ℕ} (W : Walking v n ps i r marks mark m a b w₀ w to p) where
+  module _ {w : List ℕ} {to p : ℕ} (W : Walking v n ps i after r marks mark m a b w₀ w to p) where
     some : length (W .done) + length (coming p) ≡ length all
     some = sym (length-append (W .done) (coming p)) ∙ ap length (W .left)
 
@@ -145,18 +149,18 @@ module _ {v : ValidParams} {n : ℕ} {ps : List ℤ} {i r marks mark m a b : ℕ
       pub walking-mark : marks + d < length w
       walking-mark = omega (arith, walking-cell, few (S .ready), walking-length, S .apart, S .fit)
 
-      module _ {t : Bool} (h : t ≡ not (eqb (getD w (marks + d) 0) mark) && nearIn v n ps i r d) where
+      module _ {t : Bool} (h : t ≡ not (eqb (getD w (marks + d) 0) mark) && nearIn v n ps i after r d) where
         -- the marks lie below the list, so they are as they were
-        as-tested : not (eqb (getD w₀ (marks + d) 0) mark) && nearIn v n ps i r d ≡ t
-        as-tested = sym (h ∙ ap (λ (z : ℕ). not (eqb z mark) && nearIn v n ps i r d) (word-same (marks + d) (omega (arith, walking-cell, few (S .ready), S .apart))))
+        as-tested : not (eqb (getD w₀ (marks + d) 0) mark) && nearIn v n ps i after r d ≡ t
+        as-tested = sym (h ∙ ap (λ (z : ℕ). not (eqb z mark) && nearIn v n ps i after r d) (word-same (marks + d) (omega (arith, walking-cell, few (S .ready), S .apart))))
 
         now-left : coming p ≡ cond t (d ∷ coming (p + 1)) (coming (p + 1))
         now-left =
-            ap (λ (l : List ℕ). unmarked w₀ marks mark (keep (nearIn v n ps i r) l)) (part-step w₀ (14 * n) b p (omega (arith, S .high, few (S .ready), S .fit)) more ∙ ap (λ (z : ℕ). z ∷ part w₀ (14 * n + (p + 1)) (b - (p + 1))) (sym was))
-            ∙ unmarked-more w₀ marks mark (nearIn v n ps i r d) d (keep (nearIn v n ps i r) (part w₀ (14 * n + (p + 1)) (b - (p + 1))))
+            ap (λ (l : List ℕ). unmarked w₀ marks mark (keep (nearIn v n ps i after r) l)) (part-step w₀ (14 * n) b p (omega (arith, S .high, few (S .ready), S .fit)) more ∙ ap (λ (z : ℕ). z ∷ part w₀ (14 * n + (p + 1)) (b - (p + 1))) (sym was))
+            ∙ unmarked-more w₀ marks mark (nearIn v n ps i after r d) d (keep (nearIn v n ps i after r) (part w₀ (14 * n + (p + 1)) (b - (p + 1))))
             ∙ ap (λ (s : Bool). cond s (d ∷ coming (p + 1)) (coming (p + 1))) as-tested
 
-      pub walking-miss : {t : Bool} → t ≡ not (eqb (getD w (marks + d) 0) mark) && nearIn v n ps i r d → t ≡ false → Walking v n ps i r marks mark m a b w₀ w to (p + 1)
+      pub walking-miss : {t : Bool} → t ≡ not (eqb (getD w (marks + d) 0) mark) && nearIn v n ps i after r d → t ≡ false → Walking v n ps i after r marks mark m a b w₀ w to (p + 1)
       walking-miss {t} h f = record {
         reached = omega arith;
         done = W .done;
@@ -165,11 +169,11 @@ module _ {v : ValidParams} {n : ℕ} {ps : List ℤ} {i r marks mark m a b : ℕ
         left = ap (λ (l : List ℕ). W .done ++ l) (sym (now-left (sym f ∙ h))) ∙ W .left;
       }
 
-      module _ {t : Bool} (h : t ≡ not (eqb (getD w (marks + d) 0) mark) && nearIn v n ps i r d) (f : t ≡ true) where
+      module _ {t : Bool} (h : t ≡ not (eqb (getD w (marks + d) 0) mark) && nearIn v n ps i after r d) (f : t ≡ true) where
         pub walking-room : to < n
         walking-room = omega (arith, W .count, some, ap length (now-left (sym f ∙ h)), S .room)
 
-        pub walking-hit : Walking v n ps i r marks mark m a b w₀ (set w (15 * n + to) d) (to + 1) (p + 1)
+        pub walking-hit : Walking v n ps i after r marks mark m a b w₀ (set w (15 * n + to) d) (to + 1) (p + 1)
         walking-hit = record {
           reached = omega arith;
           done = W .done ++ (d ∷ []);
@@ -179,17 +183,17 @@ module _ {v : ValidParams} {n : ℕ} {ps : List ℤ} {i r marks mark m a b : ℕ
           left = append-assoc (W .done) (d ∷ []) (coming (p + 1)) ∙ ap (λ (l : List ℕ). W .done ++ l) (sym (now-left (sym f ∙ h))) ∙ W .left;
         }
 
-    pub walking-end : b ≤ p → (to ≡ m + length (stretch v n ps i r w₀ marks mark a b)) × (w ≡ over w₀ (15 * n + m) (stretch v n ps i r w₀ marks mark a b))
+    pub walking-end : b ≤ p → (to ≡ m + length (stretch v n ps i after r w₀ marks mark a b)) × (w ≡ over w₀ (15 * n + m) (stretch v n ps i after r w₀ marks mark a b))
     unfolding unmarked
     walking-end h =
         let z : p ≡ b = omega (arith, W .reached) in
         let y : b - b ≡ 0 = omega arith in
-        let l : W .done ≡ all = sym (append-nil (W .done)) ∙ ap (λ (q : ℕ). W .done ++ unmarked w₀ marks mark (keep (nearIn v n ps i r) (part w₀ (14 * n + p) q))) (sym (ap (λ (q : ℕ). b - q) z ∙ y)) ∙ W .left in
+        let l : W .done ≡ all = sym (append-nil (W .done)) ∙ ap (λ (q : ℕ). W .done ++ unmarked w₀ marks mark (keep (nearIn v n ps i after r) (part w₀ (14 * n + p) q))) (sym (ap (λ (q : ℕ). b - q) z ∙ y)) ∙ W .left in
         (W .count ∙ ap (λ (q : List ℕ). m + length q) l, W .laid ∙ ap (over w₀ (15 * n + m)) l)
 
 -- ---- a row: the cells of a bucket and of the next one
 -- row r around frame i is searched in bucket b and the next one, of 4 × k − 1, which the stretch s gives
-pub record Row (v : ValidParams) (n : ℕ) (ps : List ℤ) (k i r along h marks mark m b : ℕ) (first w : List ℕ) (s : Stretch) : Type 0 where
+pub record Row (v : ValidParams) (n : ℕ) (ps : List ℤ) (k i after r along h marks mark m b : ℕ) (first w : List ℕ) (s : Stretch) : Type 0 where
   pub rows : Rows (reachOf v) v n ps i first
   pub arranged : Arranged (geometryAt v n ps) k w
   pub sorted : CellsSorted v n ps w
@@ -198,12 +202,12 @@ pub record Row (v : ValidParams) (n : ℕ) (ps : List ℤ) (k i r along h marks 
   pub least : 0 < k
   pub hash : h ≡ rowHash (rowAround (reachOf v) v n ps i r)
   pub block : along ≡ getD first 0 0 / width (reachOf v)
-  pub room : m + length (unmarked w marks mark (listIn v n ps i r)) ≤ n
+  pub room : m + length (unmarked w marks mark (listIn v n ps i after r)) ≤ n
   pub bucket : b ≡ bucketAt (4 * k - 1) h along
   pub low : b < 4 * k - 1
   pub found : s ≡ stretchIn w (10 * n) b (4 * k - 1)
 
-module _ {v : ValidParams} {n : ℕ} {ps : List ℤ} {k i r along h marks mark m b : ℕ} {first w : List ℕ} {s : Stretch} (Q : Row v n ps k i r along h marks mark m b first w s) where
+module _ {v : ValidParams} {n : ℕ} {ps : List ℤ} {k i after r along h marks mark m b : ℕ} {first w : List ℕ} {s : Stretch} (Q : Row v n ps k i after r along h marks mark m b first w s) where
   abbrev g : Geometry
   g = geometryAt v n ps
 
@@ -223,18 +227,18 @@ module _ {v : ValidParams} {n : ℕ} {ps : List ℤ} {k i r along h marks mark m
       ∙ ap (λ (x : ℕ). bucketAt (4 * x - 1) (rowHash (rowAround (reachOf v) v n ps i r)) ((raise (getD (frameAt (reachOf v) v n ps i) 0 (pos 0)) - reachOf v) / width (reachOf v))) (Q .arranged .count)
 
   abbrev near : ℕ → ℕ → List ℕ
-  near = nearBy v n ps i r w
+  near = nearBy v n ps i after r w
 
-  row-is : near (s .«from») (s .to) ++ near 0 (s .rest) ≡ listIn v n ps i r
+  row-is : near (s .«from») (s .to) ++ near 0 (s .rest) ≡ listIn v n ps i after r
   unfolding listIn foundIn pairAt
-  row-is = sym (keep-append (nearIn v n ps i r) (part w (14 * n + s .«from») (s .to - s .«from»)) (part w (14 * n + 0) (s .rest - 0)))
-      ∙ ap (keep (nearIn v n ps i r)) (row-holds .both ∙ ap₂ (λ (x y : ℕ). numbered (cellKey v n ps) K x ++ numbered (cellKey v n ps) K ((x + 1) % (4 * y - 1))) bucket-is (Q .arranged .count))
+  row-is = sym (keep-append (nearIn v n ps i after r) (part w (14 * n + s .«from») (s .to - s .«from»)) (part w (14 * n + 0) (s .rest - 0)))
+      ∙ ap (keep (nearIn v n ps i after r)) (row-holds .both ∙ ap₂ (λ (x y : ℕ). numbered (cellKey v n ps) K x ++ numbered (cellKey v n ps) K ((x + 1) % (4 * y - 1))) bucket-is (Q .arranged .count))
 
-  pub row-start : InRow v n ps i r marks mark m w w (s .«from») (s .to) (s .rest) m
+  pub row-start : InRow v n ps i after r marks mark m w w (s .«from») (s .to) (s .rest) m
   unfolding unmarked
   row-start = record { low = row-holds .low; high = row-holds .high; rest-low = row-holds .rest-low; done = []; count = omega arith; laid = sym (over-nil w (15 * n + m)); left = row-is }
 
-  module _ {u : List ℕ} {from to rest more : ℕ} (I : InRow v n ps i r marks mark m w u from to rest more) where
+  module _ {u : List ℕ} {from to rest more : ℕ} (I : InRow v n ps i after r marks mark m w u from to rest more) where
     abbrev free : List ℕ → List ℕ
     free = unmarked w marks mark
 
@@ -244,7 +248,7 @@ module _ {v : ValidParams} {n : ℕ} {ps : List ℤ} {k i r along h marks mark m
     abbrev X : List ℕ
     X = free (near from to)
 
-    sizes : length D + (length X + length (free (near 0 rest))) ≡ length (free (listIn v n ps i r))
+    sizes : length D + (length X + length (free (near 0 rest))) ≡ length (free (listIn v n ps i after r))
     sizes = sym (ap length (ap free (sym (I .left)) ∙ unmarked-append w marks mark (I .done) (near from to ++ near 0 rest) ∙ ap (λ (l : List ℕ). D ++ l) (unmarked-append w marks mark (near from to) (near 0 rest)))
         ∙ length-append D (X ++ free (near 0 rest)) ∙ ap (λ (x : ℕ). length D + x) (length-append X (free (near 0 rest))))
 
@@ -258,18 +262,18 @@ module _ {v : ValidParams} {n : ℕ} {ps : List ℤ} {k i r along h marks mark m
     row-sorted = subst (CellsSorted v n ps) (sym (I .laid)) (cells-sorted-over (Q .rows .ready) (15 * n + m) D (omega (arith, Q .fit, Q .room)) (inr (omega arith)) (Q .sorted))
 
     -- the sorted cells and the marks lie below the list, so they are as they were
-    as-before : stretch v n ps i r u marks mark from to ≡ X
+    as-before : stretch v n ps i after r u marks mark from to ≡ X
     as-before =
-        ap (λ (x : List ℕ). stretch v n ps i r x marks mark from to) (I .laid)
-        ∙ ap (λ (x : List ℕ). unmarked (over w (15 * n + m) D) marks mark (keep (nearIn v n ps i r) x)) (part-under w (14 * n + from) (to - from) (15 * n + m) D (omega (arith, I .low, I .high, few (Q .rows .ready))) (omega (arith, Q .fit, Q .room)))
+        ap (λ (x : List ℕ). stretch v n ps i after r x marks mark from to) (I .laid)
+        ∙ ap (λ (x : List ℕ). unmarked (over w (15 * n + m) D) marks mark (keep (nearIn v n ps i after r) x)) (part-under w (14 * n + from) (to - from) (15 * n + m) D (omega (arith, I .low, I .high, few (Q .rows .ready))) (omega (arith, Q .fit, Q .room)))
         ∙ unmarked-over w marks mark n (15 * n + m) D (near from to)
-        (λ x l. omega (arith, in-below (Q .rows .ready) i r x (subst (In x) (I .left) (append-two x (I .done) (near from to ++ near 0 rest) (append-one x (near from to) (near 0 rest) l))), few (Q .rows .ready)))
+        (λ x l. omega (arith, in-below (Q .rows .ready) i after r x (subst (In x) (I .left) (append-two x (I .done) (near from to ++ near 0 rest) (append-one x (near from to) (near 0 rest) l))), few (Q .rows .ready)))
         (omega (arith, Q .apart)) (omega (arith, Q .fit, Q .room))
 
-    pub row-room : more + length (stretch v n ps i r u marks mark from to) ≤ n
+    pub row-room : more + length (stretch v n ps i after r u marks mark from to) ≤ n
     row-room = omega (arith, I .count, Q .room, sizes, ap length as-before)
 
-    pub row-next : {t : ℕ} {x : List ℕ} → t ≡ more + length (stretch v n ps i r u marks mark from to) → x ≡ over u (15 * n + more) (stretch v n ps i r u marks mark from to) → InRow v n ps i r marks mark m w x 0 rest 0 t
+    pub row-next : {t : ℕ} {x : List ℕ} → t ≡ more + length (stretch v n ps i after r u marks mark from to) → x ≡ over u (15 * n + more) (stretch v n ps i after r u marks mark from to) → InRow v n ps i after r marks mark m w x 0 rest 0 t
     row-next {t} {x} p q =
         let e : unmarked w marks mark (I .done ++ near from to) ≡ D ++ X = unmarked-append w marks mark (I .done) (near from to) in
         record {
@@ -285,9 +289,9 @@ module _ {v : ValidParams} {n : ℕ} {ps : List ℤ} {k i r along h marks mark m
               ∙ ap (λ (l : List ℕ). I .done ++ (near from to ++ l)) (append-nil (near 0 rest)) ∙ I .left;
         }
 
-    pub row-end : to ≤ 0 → (more ≡ m + length (unmarked w marks mark (listIn v n ps i r))) × (u ≡ over w (15 * n + m) (unmarked w marks mark (listIn v n ps i r)))
+    pub row-end : to ≤ 0 → (more ≡ m + length (unmarked w marks mark (listIn v n ps i after r))) × (u ≡ over w (15 * n + m) (unmarked w marks mark (listIn v n ps i after r)))
     row-end h =
         let a : to - from ≡ 0 = omega arith in
         let b : rest ≡ 0 = omega (arith, I .rest-low) in
-        let l : I .done ≡ listIn v n ps i r = sym (ap₂ (λ (x y : ℕ). I .done ++ (keep (nearIn v n ps i r) (part w (14 * n + from) x) ++ keep (nearIn v n ps i r) (part w (14 * n + 0) (y - 0)))) a b ∙ append-nil (I .done)) ∙ I .left in
+        let l : I .done ≡ listIn v n ps i after r = sym (ap₂ (λ (x y : ℕ). I .done ++ (keep (nearIn v n ps i after r) (part w (14 * n + from) x) ++ keep (nearIn v n ps i after r) (part w (14 * n + 0) (y - 0)))) a b ∙ append-nil (I .done)) ∙ I .left in
         (I .count ∙ ap (λ (x : List ℕ). m + length (free x)) l, I .laid ∙ ap (λ (x : List ℕ). over w (15 * n + m) (free x)) l)

@@ -1,19 +1,20 @@
 -- Laws of the list of a cell: it has the core cells that the cell lists, each once, in some order; of those on it that are not marked; and what writing words does to the sorted cells.
-use mathlib.Core.Path.{_≡_, refl, sym, ap, subst, _∙_}
+use mathlib.Core.Path.{_≡_, refl, sym, ap, ap₂, subst, _∙_}
 use mathlib.Core.Logic.{_⊎_, inl, inr}
 use mathlib.Core.Bool.{Bool, true, false, not, cond, _&&_, and-true, and-false}
-use mathlib.Core.List.{List, _∷_, _++_, List·Permᴰ}
-use Prim.Native.Nat.{ℕ, _+_, _-_, _*_, _%_, _<_, _≤_}
+use mathlib.Core.List.{List, _∷_, _++_, map, List·Permᴰ}
+use Prim.Native.Nat.{ℕ, zero, suc, _+_, _-_, _*_, _%_, _^_, _<_, _≤_}
 use native.Mathlib.Nat.{le-trans, add-mul, mul-add}
+use native.Mathlib.Decide.{decLt}
 use native.Mathlib.Omega.{arith}
 use lib.IntN.{ℤ}
-use lib.Dec.{T, eqb, leb→le}
-use lib.ListN.{length, getD, replicate, length-replicate}
+use lib.Dec.{T, eqb, leb, leb·zero, leb→le, le→leb}
+use lib.ListN.{length, getD, drop, replicate, length-append, length-replicate}
 use borrow.Author.Tests.{eq-eqb, ne-eqb}
-use Rattle.lists.specs.Lists.{numbers, keep, In, Below}
+use Rattle.lists.specs.Lists.{from, numbers, keep, concat, In, Below}
 use Rattle.lists.specs.Words.{over, Clear}
 use Rattle.lists.specs.Sorting.{numbered, placesOf}
-use Rattle.lists.specs.ListLaws.{true-T, and-left, and-right, and-both, in-keep, keep-in, keep-same, in-append, at-in, in-numbers, numbers-in}
+use Rattle.lists.specs.ListLaws.{true-T, and-left, and-right, and-both, in-keep, keep-in, keep-same, keep-more, in-append, append-one, append-two, at-in, in-numbers, numbers-in}
 use Rattle.lists.specs.CountLaws.{keep-append, keep-le, keep-all}
 use Rattle.lists.specs.OrderLaws.{kept-le}
 use Rattle.lists.specs.PermLaws.{perm-same, perm-length}
@@ -24,12 +25,15 @@ use Rattle.hyperparams.specs.declared.ValidParams.{ValidParams}
 use Rattle.counting_tree.specs.Frames.{squared}
 use Rattle.counting_tree.specs.Geometry.{Geometry, geometryOf, near}
 use Rattle.counting_tree.specs.Ready.{geometryAt, Ready, at-frames}
-use Rattle.blocks.specs.Blocks.{frameAt, bucketAround, pairAt, foundIn, found}
-use Rattle.blocks.specs.RowLaws.{key-below, found-order}
+use Rattle.blocks.specs.Blocks.{sameNats, frameAt, rowOf, rowAround, ownRow, bucketAround, pairAt, foundIn, found}
+use Rattle.blocks.specs.BlockLaws.{which}
+use Rattle.blocks.specs.RowLaws.{key-below, row-low, in-found, found-in, found-order}
+use Rattle.blocks.specs.OwnRowLaws.{own-row-low, rows-turn}
 use Rattle.cells_grid.specs.Cells.{cells, listed, coreCell}
 use Rattle.cells_grid.specs.Arrangement.{cellAt}
+use Rattle.cells_grid.specs.Ready.{ready-lawful}
 use Rattle.cells_grid.specs.ArrangementLaws.{cells-le, cell-at-below, listed-at}
-use Rattle.cells_grid.specs.Listing.{reachOf, coreAt, unmarked, sortedCount, cellKey, nearAt, nearIn, listIn, listOf, CellsSorted}
+use Rattle.cells_grid.specs.Listing.{reachOf, coreAt, unmarked, sortedCount, geo, cellBuckets, cellKey, nearAt, nearFrom, nearIn, listIn, listFrom, listOf, laterOf, CellsSorted}
 
 -- words laid over words that are 0, and made 0 again
 laid-cleared : (w : List ℕ) (a : ℕ) (ws : List ℕ) (m : ℕ) → m ≡ length ws → a + m ≤ length w → Clear w a m → over (over w a ws) a (replicate m 0) ≡ w
@@ -82,6 +86,53 @@ near-reach v n ps i j h = omega (arith, leb→le (squared (frameAt (reachOf v) v
         let e : 2 * t ≡ t + t = omega arith in
         rw (e, add-mul t t (t + t), mul-add t t t) (omega arith)
 
+-- ---- rows around frame i
+module _ (v : ValidParams) (n : ℕ) (ps : List ℤ) (i : ℕ) where
+  -- all that are found in a row
+  in-all : (q : ℕ) → listIn v n ps i 0 q ≡ foundIn (reachOf v) v n ps (cellBuckets v n ps) (cellAt (geo v n ps)) (coreAt (geo v n ps)) (length (cells (geo v n ps))) i (nearAt v n ps i) q
+  unfolding listIn foundIn
+  in-all q = keep-same _ _ (pairAt (reachOf v) v n ps (cellBuckets v n ps) (cellAt (geo v n ps)) (coreAt (geo v n ps)) (length (cells (geo v n ps))) (bucketAround (reachOf v) v n ps (cellBuckets v n ps) i q))
+      (λ d l. ap (λ (b : Bool). sameNats (rowOf (reachOf v) v n ps (cellAt (geo v n ps) d)) (rowAround (reachOf v) v n ps i q) && (b && nearAt v n ps i d)) (leb·zero d))
+
+  from-all : (m q : ℕ) → listFrom v n ps i 0 q m
+      ≡ concat (map (foundIn (reachOf v) v n ps (cellBuckets v n ps) (cellAt (geo v n ps)) (coreAt (geo v n ps)) (length (cells (geo v n ps))) i (nearAt v n ps i)) (from q m))
+  from-all zero q = refl
+  from-all (suc m) q = ap₂ _++_ (in-all q) (from-all m (suc q))
+
+  -- fewer numbers, or fewer rows, are no more cells
+  in-fewer : (a q : ℕ) → length (listIn v n ps i a q) ≤ length (listIn v n ps i 0 q)
+  unfolding listIn foundIn
+  in-fewer a q = keep-more (nearIn v n ps i a q) (nearIn v n ps i 0 q) (pairAt (reachOf v) v n ps (cellBuckets v n ps) (cellAt (geo v n ps)) (coreAt (geo v n ps)) (length (cells (geo v n ps))) (bucketAround (reachOf v) v n ps (cellBuckets v n ps) i q))
+      (λ d l t.
+      let S = sameNats (rowOf (reachOf v) v n ps (cellAt (geo v n ps) d)) (rowAround (reachOf v) v n ps i q) in
+      and-both S (nearFrom v n ps i 0 d) (and-left S (nearFrom v n ps i a d) t) (and-both (leb 0 d) (nearAt v n ps i d) (true-T (leb·zero d)) (and-right (leb a d) (nearAt v n ps i d) (and-right S (nearFrom v n ps i a d) t))))
+
+  from-fewer : (m a q : ℕ) → length (listFrom v n ps i a q m) ≤ length (listFrom v n ps i 0 q m)
+  from-fewer zero a q = omega arith
+  from-fewer (suc m) a q = omega (arith, in-fewer a q, length-append (listIn v n ps i a q) (listFrom v n ps i 0 (suc q) m), length-append (listIn v n ps i 0 q) (listFrom v n ps i 0 (suc q) m))
+
+  rest-fewer : (x q s m t : ℕ) → s ≡ q + x → t ≡ x + m → length (listFrom v n ps i 0 s m) ≤ length (listFrom v n ps i 0 q t)
+  rest-fewer zero q s m t e f =
+      let a : s ≡ q = omega arith in
+      let b : t ≡ m = omega arith in
+      rw (a, b) (omega arith)
+  rest-fewer (suc x) q s m zero e f = absurd (omega arith)
+  rest-fewer (suc x) q s m (suc t) e f = omega (arith, rest-fewer x (suc q) s m t (omega arith) (omega arith), length-append (listIn v n ps i 0 q) (listFrom v n ps i 0 (suc q) t))
+
+  -- a cell of the first row, with a number from a on, and one of a later row
+  from-first : (m a q d : ℕ) → 0 < m → In d (listIn v n ps i a q) → In d (listFrom v n ps i a q m)
+  from-first zero a q d h l = absurd (omega arith)
+  from-first (suc m) a q d h l = append-one d (listIn v n ps i a q) (listFrom v n ps i 0 (suc q) m) l
+
+  from-later : (m a q s d : ℕ) → q < s → s < q + m → In d (listIn v n ps i 0 s) → In d (listFrom v n ps i a q m)
+  from-later zero a q s d h k l = absurd (omega arith)
+  from-later (suc m) a q s d h k l = append-two d (listIn v n ps i a q) (listFrom v n ps i 0 (suc q) m) (elim (decLt (suc q) s) [
+    | yes z ↦ from-later m 0 (suc q) s d z (omega arith) l
+    | no z ↦
+        let e : s ≡ suc q = omega arith in
+        from-first m 0 (suc q) d (omega arith) (subst (λ (x : ℕ). In d (listIn v n ps i 0 x)) e l)
+  ])
+
 module _ {ps : List ℤ} {v : ValidParams} {n : ℕ} (r : Ready ps v n) where
   abbrev g : Geometry
   g = geometryAt v n ps
@@ -101,17 +152,21 @@ module _ {ps : List ℤ} {v : ValidParams} {n : ℕ} (r : Ready ps v n) where
   inside : (d : ℕ) → d < k → cellAt g d < n
   inside d h = omega (arith, cell-at-below g d h, at-frames v n ps)
 
+  -- the row around cell c's first frame in which cell d's lies
+  abbrev rowFor : ℕ → ℕ → ℕ
+  rowFor c d = which (reachOf v) (drop 1 (frameAt (reachOf v) v n ps (cellAt g c))) (drop 1 (frameAt (reachOf v) v n ps (cellAt g d)))
+
   -- a key is below 4 × k
   pub cell-key-below : (d : ℕ) → d < length (cells (geometryAt v n ps)) → cellKey v n ps d < 4 * length (cells (geometryAt v n ps))
   cell-key-below d h = omega (arith, key-below (reachOf v) v n ps (4 * k - 1) (omega arith) (cellAt g) (coreAt g) d)
 
   -- what is found in a row are cells
-  pub in-below : (i q : ℕ) → Below (length (cells (geometryAt v n ps))) (listIn v n ps i q)
+  pub in-below : (i a q : ℕ) → Below (length (cells (geometryAt v n ps))) (listIn v n ps i a q)
   unfolding listIn foundIn pairAt numbered
-  in-below i q d l =
+  in-below i a q d l =
       let b = bucketAround (reachOf v) v n ps (4 * k - 1) i q in
       let K = cellKey v n ps in
-      elim (in-append d (numbered K k b) (numbered K k ((b + 1) % (4 * k - 1))) (in-keep (nearIn v n ps i q) d (numbered K k b ++ numbered K k ((b + 1) % (4 * k - 1))) l .0)) [
+      elim (in-append d (numbered K k b) (numbered K k ((b + 1) % (4 * k - 1))) (in-keep (nearIn v n ps i a q) d (numbered K k b ++ numbered K k ((b + 1) % (4 * k - 1))) l .0)) [
         | inl x ↦ in-numbers k d (in-keep (λ e. eqb (K e) b) d (numbers k) x .0)
         | inr x ↦ in-numbers k d (in-keep (λ e. eqb (K e) ((b + 1) % (4 * k - 1))) d (numbers k) x .0)
       ]
@@ -149,14 +204,101 @@ module _ {ps : List ℤ} {v : ValidParams} {n : ℕ} (r : Ready ps v n) where
     pub list-cleared : (w : List ℕ) → 16 * n ≤ length w → Clear w (15 * n) n → over (over w (15 * n) (listOf v n ps c)) (15 * n) (replicate (length (listOf v n ps c)) 0) ≡ w
     list-cleared w l z = few-cleared w (listOf v n ps c) list-length l z
 
-    -- ---- those on it that are not marked in the words u
-    module _ (u : List ℕ) (a m : ℕ) where
-      pub unmarked-length : length (unmarked u a m (listOf v n ps c)) ≤ length (cells (geometryAt v n ps))
-      unmarked-length = le-trans (unmarked-le u a m (listOf v n ps c)) list-length
+    -- ---- those in the rows from its own on
+    -- row by row, all that it lists
+    pub list-rows : listOf v n ps c ≡ listFrom v n ps (cellAt (geometryAt v n ps) c) 0 0 (2 ^ (v .channels - 1))
+    unfolding listOf found
+    list-rows = sym (from-all v n ps i (2 ^ (v .channels - 1)) 0)
 
-      pub unmarked-cleared : (w : List ℕ) → 16 * n ≤ length w → Clear w (15 * n) n
-          → over (over w (15 * n) (unmarked u a m (listOf v n ps c))) (15 * n) (replicate (length (unmarked u a m (listOf v n ps c))) 0) ≡ w
-      unmarked-cleared w l z = few-cleared w (unmarked u a m (listOf v n ps c)) unmarked-length l z
+    abbrev o : ℕ
+    o = ownRow (reachOf v) v n ps i
+
+    own-low : o < 2 ^ (v .channels - 1)
+    own-low = own-row-low (reachOf v) v n ps (r .room) (r .settings .scale .some) i (inside c h)
+
+    pub later-length : length (laterOf v n ps c) ≤ length (cells (geometryAt v n ps))
+    unfolding laterOf
+    later-length =
+        let R = 2 ^ (v .channels - 1) in
+        omega (arith, from-fewer v n ps i (R - o) (c + 1) o, rest-fewer v n ps i o 0 o (R - o) R (omega arith) (omega (arith, own-low)), ap length list-rows, list-length)
+
+    near-by : (a d : ℕ) → d < k → T (coreAt g d) → T (nearFrom v n ps i a d) → squared (frameAt (reachOf v) v n ps i) (frameAt (reachOf v) v n ps (cellAt g d)) ≤ reachOf v * reachOf v
+    near-by a d l t u = near-reach v n ps i (cellAt g d) (and-right (leb a d) (nearAt v n ps i d) u)
+
+    from-sound : (m a q d : ℕ) → In d (listFrom v n ps i a q m) → (d < k) × T (coreAt g d) × T (nearAt v n ps i d)
+    unfolding listIn
+    from-sound zero a q d l = absurd l
+    from-sound (suc m) a q d l = elim (in-append d (listIn v n ps i a q) (listFrom v n ps i 0 (suc q) m) l) [
+      | inl x ↦
+          let z = in-found (reachOf v) v n ps (r .room) (r .settings .scale .some) (4 * k - 1) (cellAt g) (coreAt g) k (omega arith) inside i (inside c h) (nearFrom v n ps i a) (near-by a) q d x in
+          (z .0, z .1, and-right (leb a d) (nearAt v n ps i d) (z .2))
+      | inr x ↦ from-sound m 0 (suc q) d x
+    ]
+
+    -- each of these is a core cell that cell c lists
+    pub later-sound : (d : ℕ) → In d (laterOf v n ps c)
+        → (d < length (cells (geometryAt v n ps))) × T (coreCell (geometryAt v n ps) (cellAt (geometryAt v n ps) d)) × T (listed (geometryAt v n ps) (cellAt (geometryAt v n ps) c) (cellAt (geometryAt v n ps) d))
+    unfolding laterOf
+    later-sound d l =
+        let z = from-sound (2 ^ (v .channels - 1) - o) (c + 1) o d l in
+        (z .0, z .1, subst T (sym (listed-at g c d h (z .0))) (z .2))
+
+    -- a cell in a later row, or in the same with a higher number, is one of these
+    later-in : (d : ℕ) → d < k → T (coreAt g d) → T (nearAt v n ps i d)
+        → (o < rowFor c d) ⊎ ((o ≡ rowFor c d) × (c < d)) → In d (laterOf v n ps c)
+    unfolding laterOf listIn
+    later-in d l t u s = elim s [
+      | inl x ↦ from-later v n ps i (R - o) (c + 1) o (rowFor c d) d x (omega (arith, own-low, row-low (reachOf v) v n ps (r .room) (r .settings .scale .some) i (inside c h) (cellAt g d))) (there 0 (omega arith))
+      | inr x ↦ from-first v n ps i (R - o) (c + 1) o d (omega (arith, own-low)) (subst (λ (q : ℕ). In d (listIn v n ps i (c + 1) q)) (sym (x .0)) (there (c + 1) (omega (arith, x .1))))
+    ]
+      where
+        R : ℕ
+        R = 2 ^ (v .channels - 1)
+
+        there : (a : ℕ) → a ≤ d → In d (listIn v n ps i a (rowFor c d))
+        there a e = found-in (reachOf v) v n ps (r .room) (r .settings .scale .some) (4 * k - 1) (cellAt g) (coreAt g) k (omega arith) inside i (inside c h) (nearFrom v n ps i a) (near-by a) d l t (and-both (leb a d) (nearAt v n ps i d) (le→leb a d e) u)
+
+    -- ---- those of them that are not marked in the words u
+    module _ (u : List ℕ) (a m : ℕ) where
+      pub unmarked-later-length : length (unmarked u a m (laterOf v n ps c)) ≤ length (cells (geometryAt v n ps))
+      unmarked-later-length = le-trans (unmarked-le u a m (laterOf v n ps c)) later-length
+
+      pub unmarked-later-cleared : (w : List ℕ) → 16 * n ≤ length w → Clear w (15 * n) n
+          → over (over w (15 * n) (unmarked u a m (laterOf v n ps c))) (15 * n) (replicate (length (unmarked u a m (laterOf v n ps c))) 0) ≡ w
+      unmarked-later-cleared w l z = few-cleared w (unmarked u a m (laterOf v n ps c)) unmarked-later-length l z
+
+  -- of two core cells that list each other, one finds the other
+  pub later-complete : (c d : ℕ) → c < length (cells (geometryAt v n ps)) → d < length (cells (geometryAt v n ps)) → (c ≡ d → ⊥)
+      → T (coreCell (geometryAt v n ps) (cellAt (geometryAt v n ps) c)) → T (coreCell (geometryAt v n ps) (cellAt (geometryAt v n ps) d))
+      → T (listed (geometryAt v n ps) (cellAt (geometryAt v n ps) c) (cellAt (geometryAt v n ps) d)) → In d (laterOf v n ps c) ⊎ In c (laterOf v n ps d)
+  later-complete c d h l ne s t u = elim (decLt o P) [
+    | yes x ↦ inl (forth (inl x))
+    | no x ↦ elim (decLt P o) [
+      | yes y ↦ inr (back (inl (omega (arith, turn))))
+      | no y ↦ elim (decLt c d) [
+        | yes z ↦ inl (forth (inr (omega arith, z)))
+        | no z ↦ inr (back (inr (omega (arith, turn), omega (arith, ne))))
+      ]
+    ]
+  ]
+    where
+      o : ℕ
+      o = ownRow (reachOf v) v n ps (cellAt g c)
+
+      P : ℕ
+      P = rowFor c d
+
+      near : T (nearAt v n ps (cellAt g c) d)
+      near = subst T (listed-at g c d h l) u
+
+      turn : rowFor c d + rowFor d c ≡ ownRow (reachOf v) v n ps (cellAt g c) + ownRow (reachOf v) v n ps (cellAt g d)
+      turn = rows-turn (reachOf v) v n ps (r .room) (r .settings .scale .some) (cellAt g c) (cellAt g d) (inside c h) (inside d l) (near-reach v n ps (cellAt g c) (cellAt g d) near)
+
+      forth : (o < P) ⊎ ((o ≡ P) × (c < d)) → In d (laterOf v n ps c)
+      forth x = later-in c h d l t near x
+
+      back : (ownRow (reachOf v) v n ps (cellAt g d) < rowFor d c) ⊎ ((ownRow (reachOf v) v n ps (cellAt g d) ≡ rowFor d c) × (d < c)) → In c (laterOf v n ps d)
+      back x = later-in d l c h s (ready-lawful r .near-turn (cellAt g c) (cellAt g d) near) x
 
   -- words laid below or above the sorted cells keep them
   pub cells-sorted-over : {w : List ℕ} (b : ℕ) (ws : List ℕ) → b ≤ length w → (b + length ws ≤ 10 * n) ⊎ (15 * n ≤ b) → CellsSorted v n ps w → CellsSorted v n ps (over w b ws)

@@ -5,7 +5,7 @@ use hyperparams::ValidParams;
 use lists::Word;
 ghost use mathlib.Core.Path.{_≡_};
 ghost use mathlib.Core.Bool.{not, _&&_};
-ghost use Prim.Native.Nat.{ℕ, _+_, _-_, _*_, _/_, _<_, _≤_};
+ghost use Prim.Native.Nat.{ℕ, _+_, _-_, _*_, _/_, _^_, _<_, _≤_};
 ghost use lib.Dec.{eqb};
 ghost use lib.ListN.{length, getD, replicate};
 ghost use Rattle.lists.specs.Lists.{keep, nonzero, Below};
@@ -15,7 +15,7 @@ ghost use Rattle.blocks.specs.Blocks as Blocks;
 ghost use Rattle.blocks.specs.Blocks.{edgesOf, frameAt, rowHash, rowAround, sortedBy};
 ghost use Rattle.cells_grid.specs.Cells.{cells, coreCell};
 ghost use Rattle.cells_grid.specs.Arrangement.{cellAt, Arranged};
-ghost use Rattle.cells_grid.specs.Listing.{reachOf, sortedCount, cellKey, nearIn, unmarked, listIn, listOf, CellsSorted};
+ghost use Rattle.cells_grid.specs.Listing.{reachOf, sortedCount, cellKey, nearIn, unmarked, listIn, listFrom, listOf, laterOf, CellsSorted};
 
 // From 5n on: a word on the tree of each cell, 0 where it is no core cell.
 pub const TREES: usize = 5;
@@ -60,7 +60,7 @@ fn cell_key(points: &[i16], v: ValidParams, n: usize, k: usize, work: &[Word], c
     blocks::key(points, v, n, width(v), size, lists::word(work, n + c))
 }
 
-// Sorts the core cells by the buckets of their first frames' blocks: after it `list_cells`, `list_unmarked` and `sorted_count` can be asked.
+// Sorts the core cells by the buckets of their first frames' blocks: after it `list_cells`, `list_later` and `sorted_count` can be asked.
 pub fn sort_cells(points: &[i16], v: ValidParams, n: usize, k: usize, work: &mut [Word])
     requires { ⌜ Ready (now points) v n × Arranged (geometryAt v n (now points)) k (now work) × (16 * n ≤ length (now work)) × Clear (now work) (10 * n) (6 * n) ⌝ }
     requires { ⌜ ((c : ℕ) → c < k → nonzero (getD (now work) (5 * n + c) 0) ≡ coreCell (geometryAt v n (now points)) (cellAt (geometryAt v n (now points)) c)) ⌝ }
@@ -87,7 +87,7 @@ pub fn sorted_count(work: &[Word], n: usize, k: usize) -> usize
     lists::sorting::begins(work, ENDS * n, BUCKETS * k - 1)
 }
 
-// Whether cell d is not marked, and its first frame lies in row r of those that begin at `first`, and near frame i.
+// Whether cell d is not marked, its number is `after` or more, and its first frame lies in row r of those that begin at `first`, and near frame i.
 // (Most cells are marked, so that is asked first. Nearly all cells of a stretch lie in the row, so the distance is asked before the row.)
 fn is_found(
     points: &[i16],
@@ -97,15 +97,19 @@ fn is_found(
     first: [u64; 4],
     r: usize,
     i: usize,
+    after: usize,
     d: usize,
     marks: usize,
     mark: usize,
 ) -> bool
     requires { ⌜ Ready (now points) v n × (i < n) × (first ≡ over (replicate 4 0) 0 (edgesOf (Blocks.width (reachOf v)) (reachOf v) (frameAt (reachOf v) v n (now points) i))) × Below 65536 first ⌝ }
     requires { ⌜ Arranged (geometryAt v n (now points)) (length (cells (geometryAt v n (now points)))) (now work) × (d < length (cells (geometryAt v n (now points)))) × (marks + d < length (now work)) ⌝ }
-    ensures { λ b. ⌜ b ≡ not (eqb (getD (now (work .entry)) (marks + d) 0) mark) && nearIn v n (now (points .entry)) i r d ⌝ }
+    ensures { λ b. ⌜ b ≡ not (eqb (getD (now (work .entry)) (marks + d) 0) mark) && nearIn v n (now (points .entry)) i after r d ⌝ }
 {
     if lists::word(work, marks + d) == mark {
+        return false;
+    }
+    if d < after {
         return false;
     }
     let j = lists::word(work, n + d);
@@ -115,7 +119,8 @@ fn is_found(
     false
 }
 
-// Writes the unmarked ones of the sorted cells from `from` up to `end` whose first frames lie in row r, and near frame i, after the m words from 15n on. Returns how many there are then.
+// Writes the unmarked ones with numbers from `after` on of the sorted cells from `from` up to `end` whose first frames lie in row r, and near frame i, after the m words from 15n on.
+// Returns how many there are then.
 fn list_stretch(
     points: &[i16],
     v: ValidParams,
@@ -124,6 +129,7 @@ fn list_stretch(
     i: usize,
     first: [u64; 4],
     r: usize,
+    after: usize,
     from: usize,
     end: usize,
     m: usize,
@@ -132,16 +138,16 @@ fn list_stretch(
 ) -> usize
     requires { ⌜ Ready (now points) v n × (i < n) × (first ≡ over (replicate 4 0) 0 (edgesOf (Blocks.width (reachOf v)) (reachOf v) (frameAt (reachOf v) v n (now points) i))) × Below 65536 first ⌝ }
     requires { ⌜ Arranged (geometryAt v n (now points)) (length (cells (geometryAt v n (now points)))) (now work) × CellsSorted v n (now points) (now work) × (16 * n ≤ length (now work)) × (marks + n ≤ 10 * n) ⌝ }
-    requires { ⌜ (from ≤ end) × (end ≤ length (cells (geometryAt v n (now points)))) × (m + length (unmarked (now work) marks mark (keep (nearIn v n (now points) i r) (part (now work) (14 * n + from) (end - from)))) ≤ n) ⌝ }
-    ensures { λ s. ⌜ s ≡ m + length (unmarked (now (work .entry)) marks mark (keep (nearIn v n (now (points .entry)) i r) (part (now (work .entry)) (14 * n + from) (end - from)))) ⌝ }
-    ensures { λ _. ⌜ now (work .exit) ≡ over (now (work .entry)) (15 * n + m) (unmarked (now (work .entry)) marks mark (keep (nearIn v n (now (points .entry)) i r) (part (now (work .entry)) (14 * n + from) (end - from)))) ⌝ }
+    requires { ⌜ (from ≤ end) × (end ≤ length (cells (geometryAt v n (now points)))) × (m + length (unmarked (now work) marks mark (keep (nearIn v n (now points) i after r) (part (now work) (14 * n + from) (end - from)))) ≤ n) ⌝ }
+    ensures { λ s. ⌜ s ≡ m + length (unmarked (now (work .entry)) marks mark (keep (nearIn v n (now (points .entry)) i after r) (part (now (work .entry)) (14 * n + from) (end - from)))) ⌝ }
+    ensures { λ _. ⌜ now (work .exit) ≡ over (now (work .entry)) (15 * n + m) (unmarked (now (work .entry)) marks mark (keep (nearIn v n (now (points .entry)) i after r) (part (now (work .entry)) (14 * n + from) (end - from)))) ⌝ }
 {
     let mut to = m;
     let mut p = from;
     while p < end {
         let next = p + 1;
         let d = lists::word(work, blocks::PLACES * n + p);
-        if is_found(points, v, n, work, first, r, i, d, marks, mark) {
+        if is_found(points, v, n, work, first, r, i, after, d, marks, mark) {
             work[LIST * n + to] = d as Word;
             to += 1;
             p = next;
@@ -152,7 +158,8 @@ fn list_stretch(
     to
 }
 
-// Writes the unmarked core cells whose first frames lie in row r, which has the hash h, and near frame i, after the m words from 15n on. Returns how many there are then.
+// Writes the unmarked core cells with numbers from `after` on whose first frames lie in row r, which has the hash h, and near frame i, after the m words from 15n on.
+// Returns how many there are then.
 fn list_row(
     points: &[i16],
     v: ValidParams,
@@ -164,15 +171,16 @@ fn list_row(
     r: usize,
     h: u64,
     along: usize,
+    after: usize,
     m: usize,
     marks: usize,
     mark: usize,
 ) -> usize
     requires { ⌜ Ready (now points) v n × (i < n) × (first ≡ over (replicate 4 0) 0 (edgesOf (Blocks.width (reachOf v)) (reachOf v) (frameAt (reachOf v) v n (now points) i))) × Below 65536 first ⌝ }
     requires { ⌜ Arranged (geometryAt v n (now points)) k (now work) × CellsSorted v n (now points) (now work) × (16 * n ≤ length (now work)) × (marks + n ≤ 10 * n) ⌝ }
-    requires { ⌜ (0 < k) × (h ≡ rowHash (rowAround (reachOf v) v n (now points) i r)) × (along ≡ getD first 0 0 / Blocks.width (reachOf v)) × (m + length (unmarked (now work) marks mark (listIn v n (now points) i r)) ≤ n) ⌝ }
-    ensures { λ s. ⌜ s ≡ m + length (unmarked (now (work .entry)) marks mark (listIn v n (now (points .entry)) i r)) ⌝ }
-    ensures { λ _. ⌜ now (work .exit) ≡ over (now (work .entry)) (15 * n + m) (unmarked (now (work .entry)) marks mark (listIn v n (now (points .entry)) i r)) ⌝ }
+    requires { ⌜ (0 < k) × (h ≡ rowHash (rowAround (reachOf v) v n (now points) i r)) × (along ≡ getD first 0 0 / Blocks.width (reachOf v)) × (m + length (unmarked (now work) marks mark (listIn v n (now points) i after r)) ≤ n) ⌝ }
+    ensures { λ s. ⌜ s ≡ m + length (unmarked (now (work .entry)) marks mark (listIn v n (now (points .entry)) i after r)) ⌝ }
+    ensures { λ _. ⌜ now (work .exit) ≡ over (now (work .entry)) (15 * n + m) (unmarked (now (work .entry)) marks mark (listIn v n (now (points .entry)) i after r)) ⌝ }
 {
     let size = BUCKETS * k - 1;
     let s = blocks::stretch_at(work, ENDS * n, blocks::bucket(h, along, size), size);
@@ -182,7 +190,21 @@ fn list_row(
     let mut more = m;
     // One place of call for both stretches: the compiler then puts it in line. (What ends at 0 is empty, and so is its rest.)
     while to > 0 {
-        more = list_stretch(points, v, n, work, i, first, r, from, to, more, marks, mark);
+        more = list_stretch(
+            points,
+            v,
+            n,
+            work,
+            i,
+            first,
+            r,
+            after,
+            from,
+            to,
+            more,
+            marks,
+            mark,
+        );
         from = 0;
         to = rest;
         rest = 0;
@@ -190,29 +212,33 @@ fn list_row(
     more
 }
 
-// Writes the core cells that cell c lists and whose word from `marks` on is not `mark`, from 15n on. Returns how many there are.
-pub fn list_unmarked(
+// Writes the unmarked core cells in the rows around frame i from row `start` on, and of row `start` only those with numbers from `after` on, from 15n on. Returns how many there are.
+fn list_rows(
     points: &[i16],
     v: ValidParams,
     n: usize,
     k: usize,
     work: &mut [Word],
-    c: usize,
+    i: usize,
+    first: [u64; 4],
+    start: usize,
+    after: usize,
     marks: usize,
     mark: usize,
 ) -> usize
-    requires { ⌜ Ready (now points) v n × Arranged (geometryAt v n (now points)) k (now work) × CellsSorted v n (now points) (now work) × (c < k) × (16 * n ≤ length (now work)) × (marks + n ≤ 10 * n) ⌝ }
-    ensures { λ s. ⌜ s ≡ length (unmarked (now (work .entry)) marks mark (listOf v n (now (points .entry)) c)) ⌝ }
-    ensures { λ _. ⌜ now (work .exit) ≡ over (now (work .entry)) (15 * n) (unmarked (now (work .entry)) marks mark (listOf v n (now (points .entry)) c)) ⌝ }
+    requires { ⌜ Ready (now points) v n × (i < n) × (first ≡ over (replicate 4 0) 0 (edgesOf (Blocks.width (reachOf v)) (reachOf v) (frameAt (reachOf v) v n (now points) i))) × Below 65536 first ⌝ }
+    requires { ⌜ Arranged (geometryAt v n (now points)) k (now work) × CellsSorted v n (now points) (now work) × (16 * n ≤ length (now work)) × (marks + n ≤ 10 * n) ⌝ }
+    requires { ⌜ (0 < k) × (start < 2 ^ (v .channels - 1)) × (length (listFrom v n (now points) i after start (2 ^ (v .channels - 1) - start)) ≤ n) ⌝ }
+    ensures { λ s. ⌜ s ≡ length (unmarked (now (work .entry)) marks mark (listFrom v n (now (points .entry)) i after start (2 ^ (v .channels - 1) - start))) ⌝ }
+    ensures { λ _. ⌜ now (work .exit) ≡ over (now (work .entry)) (15 * n) (unmarked (now (work .entry)) marks mark (listFrom v n (now (points .entry)) i after start (2 ^ (v .channels - 1) - start))) ⌝ }
 {
-    let i = lists::word(work, n + c);
     let w = width(v);
-    let first = blocks::edges_at(points, v, n, w, reach(v), i);
     let along = (first[0] / w) as usize;
     let hashes = blocks::row_hashes(first, w);
     let rows = blocks::row_count(v.channels);
     let mut m = 0;
-    let mut r = 0;
+    let mut r = start;
+    let mut least = after;
     while r < rows {
         let next = r + 1;
         m = list_row(
@@ -226,13 +252,46 @@ pub fn list_unmarked(
             r,
             hashes[r],
             along,
+            least,
             m,
             marks,
             mark,
         );
         r = next;
+        least = 0;
     }
     m
+}
+
+// Where the rows around frame i begin.
+fn first_row(points: &[i16], v: ValidParams, n: usize, i: usize) -> [u64; 4]
+    requires { ⌜ Ready (now points) v n × (i < n) ⌝ }
+    ensures { λ r. ⌜ r ≡ over (replicate 4 0) 0 (edgesOf (Blocks.width (reachOf v)) (reachOf v) (frameAt (reachOf v) v n (now (points .entry)) i)) ⌝ }
+    ensures { λ r. ⌜ Below 65536 r ⌝ }
+{
+    blocks::edges_at(points, v, n, width(v), reach(v), i)
+}
+
+// Of the core cells that cell c lists and whose word from `marks` on is not `mark`, writes those in the rows from its own on, and of its own row those after c, from 15n on.
+// Returns how many there are. (Of two cells that list each other one finds the other so: the other need not look for it.)
+pub fn list_later(
+    points: &[i16],
+    v: ValidParams,
+    n: usize,
+    k: usize,
+    work: &mut [Word],
+    c: usize,
+    marks: usize,
+    mark: usize,
+) -> usize
+    requires { ⌜ Ready (now points) v n × Arranged (geometryAt v n (now points)) k (now work) × CellsSorted v n (now points) (now work) × (c < k) × (16 * n ≤ length (now work)) × (marks + n ≤ 10 * n) ⌝ }
+    ensures { λ s. ⌜ s ≡ length (unmarked (now (work .entry)) marks mark (laterOf v n (now (points .entry)) c)) ⌝ }
+    ensures { λ _. ⌜ now (work .exit) ≡ over (now (work .entry)) (15 * n) (unmarked (now (work .entry)) marks mark (laterOf v n (now (points .entry)) c)) ⌝ }
+{
+    let i = lists::word(work, n + c);
+    let first = first_row(points, v, n, i);
+    let start = blocks::own_row(points, v, n, width(v), first, i);
+    list_rows(points, v, n, k, work, i, first, start, c + 1, marks, mark)
 }
 
 // Writes the core cells that cell c lists from 15n on. Returns how many there are.
@@ -248,5 +307,7 @@ pub fn list_cells(
     ensures { λ r. ⌜ r ≡ length (listOf v n (now (points .entry)) c) ⌝ }
     ensures { λ _. ⌜ now (work .exit) ≡ over (now (work .entry)) (15 * n) (listOf v n (now (points .entry)) c) ⌝ }
 {
-    list_unmarked(points, v, n, k, work, c, TREES * n, NO_WORD)
+    let i = lists::word(work, n + c);
+    let first = first_row(points, v, n, i);
+    list_rows(points, v, n, k, work, i, first, 0, 0, TREES * n, NO_WORD)
 }

@@ -22,24 +22,24 @@ use Rattle.counting_tree.specs.Geometry.{Geometry}
 use Rattle.counting_tree.specs.Ready.{geometryAt, Ready}
 use Rattle.cells_grid.specs.Cells.{cells, coreCell}
 use Rattle.cells_grid.specs.Arrangement.{cellAt, Arranged}
-use Rattle.cells_grid.specs.Listing.{unmarked, listOf, CellsSorted}
-use Rattle.cells_grid.specs.ListingLaws.{in-unmarked, list-sound, unmarked-length, unmarked-cleared, cells-sorted-over}
+use Rattle.cells_grid.specs.Listing.{unmarked, laterOf, CellsSorted}
+use Rattle.cells_grid.specs.ListingLaws.{in-unmarked, later-sound, unmarked-later-length, unmarked-later-cleared, cells-sorted-over}
 use Rattle.core_cells.specs.Forest.{Grown}
 use Rattle.core_cells.specs.ForestLaws.{grown-over}
 use Rattle.partitions.specs.Leaders.{Falling, root, shorten}
 use Rattle.partitions.specs.LeaderLaws.{Stands, own-stands, shorten-stands, shorten-leads}
 use Rattle.partitions.specs.Trials.{byLowest}
 use Rattle.partitions.specs.TrialLaws.{Within}
-use Rattle.clustering.specs.Uniting.{pairAt, onePair, pairsWith, touchAt}
+use Rattle.clustering.specs.Uniting.{pairAt, onePair, pairsWith}
 use Rattle.clustering.specs.UnitingLaws.{parts-pair, with-more, with-none, with-within, one-within}
-use Rattle.clustering.specs.UniteAll.{meetAll, byOwnLeaders, unlike, meetLists}
+use Rattle.clustering.specs.UniteAll.{linkAt, meetAll, byOwnLeaders, unlike, meetLists}
 use Rattle.clustering.specs.UniteAllLaws.{meet-append, all-stand}
 use Rattle.clustering.proofs.Held.{frames, few-cells, cell-count, is-cell, tree-held}
 use Rattle.clustering.proofs.Lent.{lent, lent-length, back}
 
 -- what pairs leave of the leaders p
 abbrev pub left : Geometry → List (ℕ × ℕ) → List ℕ → List ℕ
-left g = meetAll byOwnLeaders (touchAt g)
+left g = meetAll byOwnLeaders (linkAt g)
 
 -- ---- w₀ are the words at first, w those now: only the leaders' have changed
 pub record Leading (g : Geometry) (n k : ℕ) (w₀ w : List ℕ) : Type 0 where
@@ -90,8 +90,8 @@ module _ {g : Geometry} {n k : ℕ} {w₀ w : List ℕ} (i : Leading g n k w₀ 
     }
 
   -- what pairs of cells below k leave are such
-  pub pairs-stand : (ps : List (ℕ × ℕ)) → Within k ps → Stands k (meetAll byLowest (touchAt g) ps (root (part w (6 * n) k))) (left g ps (part w (6 * n) k))
-  pairs-stand ps within = all-stand (touchAt g) k ps within leaders-stand
+  pub pairs-stand : (ps : List (ℕ × ℕ)) → Within k ps → Stands k (meetAll byLowest (linkAt g) ps (root (part w (6 * n) k))) (left g ps (part w (6 * n) k))
+  pairs-stand ps within = all-stand (linkAt g) k ps within leaders-stand
 
 -- ---- cell c with the m cells from 15n on, of which the first j are met
 pub record Listing (g : Geometry) (n k : ℕ) (w₀ w : List ℕ) (c m j : ℕ) : Type 0 where
@@ -151,7 +151,7 @@ module _ {g : Geometry} {n k : ℕ} {w₀ w : List ℕ} {c m j : ℕ} (i : Listi
           high = omega arith;
           goes = i .goes
               ∙ ap (λ (ps : List (ℕ × ℕ)). left g ps (part w (6 * n) k)) split
-              ∙ meet-append byOwnLeaders (touchAt g) (onePair g c d) (pairsWith g c (drop (j + 1) given)) (part w (6 * n) k)
+              ∙ meet-append byOwnLeaders (linkAt g) (onePair g c d) (pairsWith g c (drop (j + 1) given)) (part w (6 * n) k)
               ∙ ap (left g (pairsWith g c (drop (j + 1) given))) (sym (leaders-now L s f));
         }
 
@@ -164,11 +164,11 @@ module _ {g : Geometry} {n k : ℕ} {w₀ w : List ℕ} {c m j : ℕ} (i : Listi
 -- ---- the cells from c on, each with the cells of its list that have another leader
 -- what the cells cs leave of the leaders p
 abbrev leftBy : (v : ValidParams) (n : ℕ) (ps : List ℤ) → List ℕ → List ℕ → List ℕ
-leftBy v n ps = meetLists (geometryAt v n ps) (touchAt (geometryAt v n ps)) (listOf v n ps)
+leftBy v n ps = meetLists (geometryAt v n ps) (linkAt (geometryAt v n ps)) (laterOf v n ps)
 
 -- the pairs of c that are met from the leaders p, once its own is looked for
 abbrev rowOf : (v : ValidParams) (n : ℕ) (ps : List ℤ) → ℕ → List ℕ → List (ℕ × ℕ)
-rowOf v n ps c p = pairsWith (geometryAt v n ps) c (unlike p c (listOf v n ps c))
+rowOf v n ps c p = pairsWith (geometryAt v n ps) c (unlike p c (laterOf v n ps c))
 
 pub record Rows (v : ValidParams) (n : ℕ) (ps : List ℤ) (k : ℕ) (w₀ w : List ℕ) (c : ℕ) : Type 0 where
   pub leading : Leading (geometryAt v n ps) n k w₀ w
@@ -263,7 +263,7 @@ module _ {ps : List ℤ} {v : ValidParams} {n : ℕ} (r : Ready ps v n) {k : ℕ
     p = part w (6 * n) k
 
     abbrev all : List ℕ
-    all = listOf v n ps c
+    all = laterOf v n ps c
 
     abbrev row : List (ℕ × ℕ)
     row = rowOf v n ps c p
@@ -289,7 +289,7 @@ module _ {ps : List ℤ} {v : ValidParams} {n : ℕ} (r : Ready ps v n) {k : ℕ
       -- the cells of its list are below k, and with it pairs
       in-all : (d : ℕ) → In d all → (d < k) × T (pairAt g c d)
       in-all d j =
-          let z = list-sound r c is-one d j in
+          let z = later-sound r c is-one d j in
           (omega (arith, z .0, cell-count r gr), parts-pair g c d (true-T (tree ∙ t)) (z .1) (z .2))
 
       -- the list is made without the cells that have its leader
@@ -303,7 +303,7 @@ module _ {ps : List ℤ} {v : ValidParams} {n : ℕ} (r : Ready ps v n) {k : ℕ
       in-ds d j = in-all d (in-unmarked w (6 * n) x d all j .0)
 
       short : length ds ≤ n
-      short = omega (arith, unmarked-length r c is-one w (6 * n) x, few-cells r gr, cell-count r gr)
+      short = omega (arith, unmarked-later-length r c is-one w (6 * n) x, few-cells r gr, cell-count r gr)
 
       -- ---- its list is written
       module _ {m : ℕ} (em : m ≡ length ds) {w₁ : List ℕ} (e₁ : w₁ ≡ over w (15 * n) ds) where
@@ -328,7 +328,7 @@ module _ {ps : List ℤ} {v : ValidParams} {n : ℕ} (r : Ready ps v n) {k : ℕ
           abbrev after : List ℕ
           after = left g row p
 
-          after-stand : Stands k (meetAll byLowest (touchAt g) row (root p)) after
+          after-stand : Stands k (meetAll byLowest (linkAt g) row (root p)) after
           after-stand = pairs-stand L row (with-within g c (unlike p c all) (i .cell) (λ d j. in-ds d (subst (In d) (sym unlike-marked) j) .0))
 
           -- the list stands above the leaders
@@ -353,7 +353,7 @@ module _ {ps : List ℤ} {v : ValidParams} {n : ℕ} (r : Ready ps v n) {k : ℕ
               let e : w₃ ≡ over w (6 * n) after =
               e₃
               ∙ ap₂ (λ (y : List ℕ) (b : ℕ). over y (15 * n) (replicate b 0)) second em
-              ∙ unmarked-cleared r c is-one w (6 * n) x (over w (6 * n) after) (omega (arith, size-u, L .room, L .size)) z in
+              ∙ unmarked-later-cleared r c is-one w (6 * n) x (over w (6 * n) after) (omega (arith, size-u, L .room, L .size)) z in
               record {
                 leading = leading-on L after-stand e;
                 sorted = subst (CellsSorted v n ps) (sym e) (cells-sorted-over r (6 * n) after fit (inl (omega (arith, after-stand .size, L .few))) (i .sorted));

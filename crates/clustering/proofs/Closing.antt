@@ -29,8 +29,8 @@ use Rattle.partitions.specs.TrialLaws.{Within}
 use Rattle.clustering.specs.Clusters.{touches}
 use Rattle.clustering.specs.Uniting.{pairAt, onePair, touchAt}
 use Rattle.clustering.specs.UnitingLaws.{if-within}
-use Rattle.clustering.specs.UniteAll.{meetAll, byOwnLeaders}
-use Rattle.clustering.specs.UniteAllLaws.{meet-append}
+use Rattle.clustering.specs.UniteAll.{linkAt, meetAll, byOwnLeaders}
+use Rattle.clustering.specs.UniteAllLaws.{meet-append, touch-links}
 use Rattle.clustering.specs.Close.{back, laterAt, earlierAt, sortedCells, closeAt, closePair, closeTurns, closePairs}
 use Rattle.clustering.specs.CloseLaws.{close-pair, close-touches}
 use Rattle.clustering.proofs.Held.{few-cells, cell-count, is-cell, core-held, first-held, first-low}
@@ -123,7 +123,10 @@ module _ {ps : List ℤ} {v : ValidParams} {n : ℕ} (r : Ready ps v n) {k : ℕ
           close-set h = as-pair is-close (one-set g can (pair-of is-close) ex ey other eq es h)
 
           pub close-link : s ≡ false → true ≡ touches g (cellAt g c) (cellAt g d) → {u : List ℕ} → u ≡ united (shortenBoth (Q can eq) c d) c d → Laid (putMid (6 * n) (6 * n + k - 6 * n) (put can q) u)
-          close-link h t eu = as-pair is-close (link g can (pair-of is-close) ex ey other eq es h t refl eu)
+          unfolding touchAt
+          close-link h t eu =
+              let linked = sym (T-true (linkAt g c d) (touch-links g c d (true-T (sym t)))) in
+              as-pair is-close (link g can (pair-of is-close) ex ey other eq es h linked refl eu)
 
 -- ---- the turns from q on: w₀ are the words at first, w those now
 module _ (v : ValidParams) (n : ℕ) (ps : List ℤ) (k : ℕ) (w₀ : List ℕ) where
@@ -234,7 +237,7 @@ module _ {ps : List ℤ} {v : ValidParams} {n k : ℕ} {w₀ w : List ℕ} {q : 
             low = omega (arith, i .low);
             goes = i .goes
                 ∙ ap (λ (ps : List (ℕ × ℕ)). left G ps (part w (6 * n) k)) split
-                ∙ meet-append byOwnLeaders (touchAt G) now then (part w (6 * n) k)
+                ∙ meet-append byOwnLeaders (linkAt G) now then (part w (6 * n) k)
                 ∙ ap (left G then) (sym (leaders-now L s e));
           }
 

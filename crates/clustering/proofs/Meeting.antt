@@ -16,22 +16,20 @@ use Rattle.lists.specs.PartLaws.{part-at}
 use Rattle.hyperparams.specs.declared.ValidParams.{ValidParams}
 use Rattle.counting_tree.specs.Geometry.{Geometry}
 use Rattle.counting_tree.specs.Ready.{geometryAt, Ready}
-use Rattle.cells_grid.specs.Arrangement.{cellAt}
 use Rattle.core_cells.specs.Forest.{Grown}
 use Rattle.partitions.specs.Leaders.{Falling, root, shortenBoth, united}
 use Rattle.partitions.specs.LeaderLaws.{root-next}
-use Rattle.clustering.specs.Clusters.{touches}
-use Rattle.clustering.specs.Uniting.{pairAt, onePair, touchAt}
-use Rattle.clustering.specs.UniteAll.{meet, meetAll, byOwnLeaders}
+use Rattle.clustering.specs.Uniting.{pairAt, onePair}
+use Rattle.clustering.specs.UniteAll.{linkAt, meet, meetAll, byOwnLeaders}
 use Rattle.clustering.proofs.Lent.{lent}
 use Rattle.clustering.proofs.Trying.{CanTry, can-try, p, P, put, Q, U, asked-words, united-words}
 
 -- ---- the definition's step, for a pair
 module _ (g : Geometry) (c d : ℕ) (two : T (pairAt g c d)) (l : List ℕ) where
   abbrev met : List ℕ
-  met = meetAll byOwnLeaders (touchAt g) (onePair g c d) l
+  met = meetAll byOwnLeaders (linkAt g) (onePair g c d) l
 
-  met-one : met ≡ meet byOwnLeaders (touchAt g) c d l
+  met-one : met ≡ meet byOwnLeaders (linkAt g) c d l
   unfolding onePair meetAll
   met-one = rw (T-true (pairAt g c d) two)
 
@@ -47,7 +45,7 @@ module _ (g : Geometry) (c d : ℕ) (two : T (pairAt g c d)) (l : List ℕ) wher
     unfolding meet
     met-pass s = met-one ∙ rw (s, ne-eqb (getD l c 0) (getD l d 0) n)
 
-    met-try : eqb (root l c) (root l d) ≡ false → (t : Bool) → touchAt g c d ≡ t → met ≡ cond t (united (shortenBoth (shortenBoth l c d) c d) c d) (shortenBoth l c d)
+    met-try : eqb (root l c) (root l d) ≡ false → (t : Bool) → linkAt g c d ≡ t → met ≡ cond t (united (shortenBoth (shortenBoth l c d) c d) c d) (shortenBoth l c d)
     unfolding meet
     met-try s t q = met-one ∙ rw (s, ne-eqb (getD l c 0) (getD l d 0) n, q) refl
 
@@ -85,9 +83,8 @@ module _ (g : Geometry) {n k : ℕ} {w : List ℕ} {c d : ℕ} (can : CanTry w n
     pub one-set : s ≡ true → Laid (put can q)
     one-set h = asked-words can eq ∙ ap (over w (6 * n)) (sym (met-pass g c d two (p can) apart (same ∙ h)))
 
-    module _ (h : s ≡ false) {t : Bool} (et : t ≡ touches g (cellAt g c) (cellAt g d)) where
+    module _ (h : s ≡ false) {t : Bool} (et : t ≡ linkAt g c d) where
       tried : left ≡ cond t (U can eq) (shortenBoth (p can) c d)
-      unfolding touchAt
       tried = met-try g c d two (p can) apart (same ∙ h) t (sym et)
 
       pub no-link : t ≡ false → Laid (put can q)

@@ -17,7 +17,7 @@ use Rattle.hyperparams.specs.declared.ValidParams.{ValidParams}
 use Rattle.counting_tree.specs.Geometry.{Geometry}
 use Rattle.counting_tree.specs.Ready.{geometryAt, Ready}
 use Rattle.cells_grid.specs.Cells.{cells}
-use Rattle.cells_grid.specs.Listing.{listOf, CellsSorted}
+use Rattle.cells_grid.specs.Listing.{laterOf, CellsSorted}
 use Rattle.cells_grid.specs.ListingLaws.{cells-sorted-over}
 use Rattle.core_cells.specs.Forest.{Grown}
 use Rattle.core_cells.specs.ForestLaws.{grown-over}
@@ -28,11 +28,11 @@ use Rattle.partitions.specs.TrialLaws.{Within, Alike, alike}
 use Rattle.clustering.specs.declared.uniting.Progress.{Progress}
 use Rattle.clustering.specs.Uniting.{pairsOf, touchAt, progressBy, progressOf, uniting, lowestAt}
 use Rattle.clustering.specs.UnitingLaws.{in-pairs}
-use Rattle.clustering.specs.UniteAll.{meetAll, byOwnLeaders, meetLists}
-use Rattle.clustering.specs.UniteAllLaws.{all-stand, lists-stand, list-listed}
+use Rattle.clustering.specs.UniteAll.{linkAt, meetAll, byOwnLeaders, meetLists}
+use Rattle.clustering.specs.UniteAllLaws.{all-stand, lists-stand, later-lists}
 use Rattle.clustering.specs.Close.{sortedCells, closePairs}
 use Rattle.clustering.specs.CloseLaws.{close-in}
-use Rattle.clustering.proofs.Held.{frames, few-cells, cell-count}
+use Rattle.clustering.proofs.Held.{lawful, frames, few-cells, cell-count}
 use Rattle.clustering.proofs.Lent.{lent, lent-length, back}
 use Rattle.clustering.proofs.Closing.{sorted-below}
 
@@ -138,19 +138,19 @@ module _ {ps : List ℤ} {v : ValidParams} {n : ℕ} (r : Ready ps v n) {k : ℕ
 
       -- what they leave of the leaders
       abbrev C : List ℕ
-      C = meetAll byOwnLeaders (touchAt g) close (column (λ c. c) k)
+      C = meetAll byOwnLeaders (linkAt g) close (column (λ c. c) k)
 
-      close-stand : Stands k (meetAll byLowest (touchAt g) close (λ c. c)) C
-      close-stand = all-stand (touchAt g) k close (λ a b i. let z = in-pairs g a b (close-some a b i) in (omega (arith, z .0, cell-count r gr), omega (arith, z .1, cell-count r gr))) (alone-stands k)
+      close-stand : Stands k (meetAll byLowest (linkAt g) close (λ c. c)) C
+      close-stand = all-stand (linkAt g) k close (λ a b i. let z = in-pairs g a b (close-some a b i) in (omega (arith, z .0, cell-count r gr), omega (arith, z .1, cell-count r gr))) (alone-stands k)
 
       close-size : length C ≡ k
       close-size = close-stand .size
 
-      module _ {u : List ℕ} (eu : u ≡ over w₁ (6 * n) (meetAll byOwnLeaders (touchAt (geometryAt v n ps)) (closePairs v n ps (sortedCells w₁ n k)) (part w₁ (6 * n) k))) where
+      module _ {u : List ℕ} (eu : u ≡ over w₁ (6 * n) (meetAll byOwnLeaders (linkAt (geometryAt v n ps)) (closePairs v n ps (sortedCells w₁ n k)) (part w₁ (6 * n) k))) where
         close-laid : u ≡ over w (6 * n) C
         close-laid =
             eu
-            ∙ ap₂ (λ (x p : List ℕ). over x (6 * n) (meetAll byOwnLeaders (touchAt g) close p)) first leaders-first
+            ∙ ap₂ (λ (x p : List ℕ). over x (6 * n) (meetAll byOwnLeaders (linkAt g) close p)) first leaders-first
             ∙ over-again w (6 * n) q C (omega arith) (close-size ∙ sym size)
 
         same-close : length u ≡ length w
@@ -159,12 +159,12 @@ module _ {ps : List ℤ} {v : ValidParams} {n : ℕ} (r : Ready ps v n) {k : ℕ
         leaders-close : part u (6 * n) k ≡ C
         leaders-close = ap (λ (z : List ℕ). part z (6 * n) k) close-laid ∙ part-same w (6 * n) k C (omega arith) close-size
 
-        met-stand : Stands k (lowestAt g (n * n)) (meetLists g (touchAt g) (listOf v n ps) (numbers k) (part u (6 * n) k))
+        met-stand : Stands k (lowestAt g (n * n)) (meetLists g (linkAt g) (laterOf v n ps) (numbers k) (part u (6 * n) k))
         met-stand =
             let l : length (cells g) ≤ n = omega (arith, few, cell-count r gr) in
-            subst (λ (p : List ℕ). Stands k (lowestAt g (n * n)) (meetLists g (touchAt g) (listOf v n ps) (numbers k) p)) (sym leaders-close)
-            (subst (λ (m : ℕ). Stands m (lowestAt g (n * n)) (meetLists g (touchAt g) (listOf v n ps) (numbers m) (meetAll byOwnLeaders (touchAt g) close (column (λ c. c) m)))) (sym (cell-count r gr))
-            (lists-stand g (listOf v n ps) (list-listed r) (n * n) (mul-le-mul l l) close close-some))
+            subst (λ (p : List ℕ). Stands k (lowestAt g (n * n)) (meetLists g (linkAt g) (laterOf v n ps) (numbers k) p)) (sym leaders-close)
+            (subst (λ (m : ℕ). Stands m (lowestAt g (n * n)) (meetLists g (linkAt g) (laterOf v n ps) (numbers m) (meetAll byOwnLeaders (linkAt g) close (column (λ c. c) m)))) (sym (cell-count r gr))
+            (lists-stand g (laterOf v n ps) (later-lists r) (lawful r gr) (n * n) (mul-le-mul l l) close close-some))
 
         pub can-unite-lists : (Ready ps v n × Grown g k u × CellsSorted v n ps u) × ((16 * n ≤ length u) × Clear u (15 * n) n × Falling (part u (6 * n) k))
         can-unite-lists = (
@@ -181,7 +181,7 @@ module _ {ps : List ℤ} {v : ValidParams} {n : ℕ} (r : Ready ps v n) {k : ℕ
         )
 
         -- ---- all pairs are met
-        module _ {w₂ : List ℕ} (e₂ : w₂ ≡ over u (6 * n) (meetLists (geometryAt v n ps) (touchAt (geometryAt v n ps)) (listOf v n ps) (numbers k) (part u (6 * n) k))) where
+        module _ {w₂ : List ℕ} (e₂ : w₂ ≡ over u (6 * n) (meetLists (geometryAt v n ps) (linkAt (geometryAt v n ps)) (laterOf v n ps) (numbers k) (part u (6 * n) k))) where
           pub room-met : 7 * n ≤ length w₂
           room-met = room-second C close-laid close-size met-stand e₂
 

@@ -9,6 +9,8 @@ pub mod Uniting
 pub mod UnitingLaws
 pub mod UniteAll
 pub mod UniteAllLaws
+pub mod Turns
+pub mod TurnsLaws
 pub mod Close
 pub mod CloseLaws
 pub mod Numbering

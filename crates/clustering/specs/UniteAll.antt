@@ -1,5 +1,5 @@
 -- Uniting the linked core cells with no count of trials: the pairs in whatever order lists give them. Definitions only.
-use mathlib.Core.Bool.{Bool, not, cond}
+use mathlib.Core.Bool.{Bool, not, _||_, cond}
 use mathlib.Core.List.{List, [], _∷_, map}
 use Prim.Native.Nat.{ℕ}
 use lib.Dec.{eqb}
@@ -8,7 +8,12 @@ use Rattle.lists.specs.Lists.{keep, concat}
 use Rattle.counting_tree.specs.Geometry.{Geometry}
 use Rattle.partitions.specs.Leaders.{root, shorten, shortenBoth, united}
 use Rattle.partitions.specs.Trials.{Holding}
-use Rattle.clustering.specs.Uniting.{pairsWith}
+use Rattle.clustering.specs.Uniting.{pairsWith, touchAt}
+
+-- whether core cells c and d are linked: a core frame of one of them has a non-zero count in the tree of the other
+unfoldable pub linkAt : Geometry → ℕ → ℕ → Bool
+unfolding touchAt
+linkAt g c d = touchAt g c d || touchAt g d c
 
 module _ {S : Type 0} (h : Holding S) (touch : ℕ → ℕ → Bool) where
   -- the pair of a and b is met: in one set it is passed, else the two sets are made one if the pair touches

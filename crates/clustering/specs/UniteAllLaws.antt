@@ -1,10 +1,11 @@
--- Laws of uniting with no count of trials: whatever the order of the pairs, with some of them taken before, and without those of cells that have one leader, it leaves the sets that enough trials leave.
+-- Laws of uniting with no count of trials: whatever the order of the pairs, each asked both ways at once and met from one side or from both, with some of them taken before, and without those of cells that have one leader, it leaves the sets that enough trials leave.
 use mathlib.Core.Path.{_≡_, refl, sym, ap, _∙_, subst}
-use mathlib.Core.Logic.{inl, inr}
+use mathlib.Core.Logic.{_⊎_, inl, inr}
 use mathlib.Core.Bool.{Bool, true, false, not, _&&_, _||_, cond, and-comm}
 use mathlib.Core.List.{List, [], _∷_, _++_, map}
 use Prim.Native.Nat.{ℕ, suc, _+_, _*_, _<_, _≤_, min}
 use native.Mathlib.Nat.{le-refl, le-antisymm}
+use native.Mathlib.Decide.{ℕ-discrete}
 use native.Mathlib.Omega.{arith}
 use lib.Dec.{T, eqb, eqb→eq}
 use lib.IntN.{ℤ}
@@ -12,24 +13,26 @@ use lib.ListN.{length, getD}
 use borrow.Author.Tests.{lt-ltb, eq-eqb}
 use Rattle.lists.specs.Lists.{numbers, keep, In, Below}
 use Rattle.lists.specs.Words.{column}
-use Rattle.lists.specs.ListLaws.{true-T, not-turn, keep-in, in-keep, keep-same, append-two, in-append, concat-in, in-concat, map-in, in-map, numbers-in, in-numbers}
+use Rattle.lists.specs.ListLaws.{true-T, not-turn, or-cases, or-one, or-two, keep-in, in-keep, keep-same, append-two, in-append, concat-in, in-concat, map-in, in-map, numbers-in, in-numbers}
 use Rattle.lists.specs.CountLaws.{keep-keep, keep-map}
-use Rattle.lists.specs.Chains.{Chain, chain-map}
+use Rattle.lists.specs.Chains.{Chain, alone, step}
 use Rattle.hyperparams.specs.declared.ValidParams.{ValidParams}
 use Rattle.counting_tree.specs.Geometry.{Geometry}
 use Rattle.counting_tree.specs.Ready.{geometryAt, Ready}
 use Rattle.cells_grid.specs.Cells.{cells, listed, coreCell}
+use Rattle.cells_grid.specs.Lawful.{Lawful}
+use Rattle.cells_grid.specs.CellLaws.{listed-turn}
 use Rattle.cells_grid.specs.Arrangement.{cellAt}
-use Rattle.cells_grid.specs.Listing.{listOf}
-use Rattle.cells_grid.specs.ListingLaws.{list-sound, list-complete}
+use Rattle.cells_grid.specs.Listing.{laterOf}
+use Rattle.cells_grid.specs.ListingLaws.{later-sound, later-complete}
 use Rattle.partitions.specs.Leaders.{root, shortenBoth}
 use Rattle.partitions.specs.LeaderLaws.{Stands, root-next, alone-stands, shorten-stands, both-stand, united-stands}
 use Rattle.partitions.specs.Trials.{Holding, Outcome, run, merged, byLowest}
 use Rattle.partitions.specs.TrialLaws.{run-finishes, run-keeps, Link, Within, joined-one, one-joined}
 use Rattle.clustering.specs.LeaderPartition.{Lowest, unite-lowest}
 use Rattle.clustering.specs.Uniting.{pairAt, pairsWith, pairsOf, touchAt, uniting, lowestAt}
-use Rattle.clustering.specs.UnitingLaws.{in-pairs, pairs-in, pair-parts, with-within, pairs-few}
-use Rattle.clustering.specs.UniteAll.{meet, meetAll, byOwnLeaders, unlike, meetLists, pairsBy}
+use Rattle.clustering.specs.UnitingLaws.{in-pairs, pairs-in, pair-parts, parts-pair, with-within, pairs-few}
+use Rattle.clustering.specs.UniteAll.{linkAt, meet, meetAll, byOwnLeaders, unlike, meetLists, pairsBy}
 
 -- ---- however sets are held
 module _ {S : Type 0} (h : Holding S) (touch : ℕ → ℕ → Bool) where
@@ -81,21 +84,26 @@ module _ (touch : ℕ → ℕ → Bool) where
     one-tied : (x y : ℕ) → lowest ps x ≡ lowest ps y → Tied ps x y
     one-tied x y e = one-joined touch (length ps) ps (λ c. Unit {0}) (λ a b i. (tt, tt)) x y tt tt (subst (λ (l : ℕ → ℕ). l x ≡ l y) (sym tried) e)
 
-  module _ (ps qs : List (ℕ × ℕ)) (within : (a b : ℕ) → In (a, b) ps → In (a, b) qs) where
-    link-within : (a b : ℕ) → Link touch ps a b → Link touch qs a b
-    link-within a b (inl i) = inl (within a b (i .0), i .1)
-    link-within a b (inr i) = inr (within b a (i .0), i .1)
+-- the links of one relation carried over to another's; a link of a cell to itself joins nothing
+module _ (f h : ℕ → ℕ → Bool) (ps qs : List (ℕ × ℕ)) (links : (a b : ℕ) → (a ≡ b → ⊥) → Link f ps a b → Link h qs a b) where
+  tied-map : {x y : ℕ} → Tied f ps x y → Tied h qs x y
+  tied-map (alone c) = alone c
+  tied-map (step {p} {q} {r} c s t) = go (ℕ-discrete p q) (tied-map t)
+    where
+      go : Dec (p ≡ q) → Tied h qs q r → Tied h qs p r
+      go (yes e) u = rw e u
+      go (no n) u = step c (links p q n s) u
 
-    -- more pairs leave lower cells
-    more-lower : (x : ℕ) → lowest qs x ≤ lowest ps x
-    more-lower x =
-        let t = one-tied ps (lowest ps x) x (lowest-lowest ps .itself x) in
-        let e = tied-one qs (chain-map (λ p c. c) link-within t) in
-        subst (λ (y : ℕ). y ≤ lowest ps x) e (lowest-lowest qs .lower (lowest ps x))
+  -- more links leave lower cells
+  more-lower : (x : ℕ) → lowest h qs x ≤ lowest f ps x
+  more-lower x =
+      let e = tied-one h qs (tied-map (one-tied f ps (lowest f ps x) x (lowest-lowest f ps .itself x))) in
+      subst (λ (y : ℕ). y ≤ lowest f ps x) e (lowest-lowest h qs .lower (lowest f ps x))
 
-  -- THE ORDER DOES NOT MATTER: the same pairs leave the same lowest cells
-  pub any-order : (ps qs : List (ℕ × ℕ)) → ((a b : ℕ) → In (a, b) ps → In (a, b) qs) → ((a b : ℕ) → In (a, b) qs → In (a, b) ps) → (x : ℕ) → lowest ps x ≡ lowest qs x
-  any-order ps qs to back x = le-antisymm (more-lower qs ps back x) (more-lower ps qs to x)
+-- NEITHER THE ORDER MATTERS NOR WHICH OF A PAIR IS ASKED: the same links leave the same lowest cells
+pub any-order : (f h : ℕ → ℕ → Bool) (ps qs : List (ℕ × ℕ)) → ((a b : ℕ) → (a ≡ b → ⊥) → Link f ps a b → Link h qs a b) → ((a b : ℕ) → (a ≡ b → ⊥) → Link h qs a b → Link f ps a b)
+    → (x : ℕ) → lowest f ps x ≡ lowest h qs x
+any-order f h ps qs to back x = le-antisymm (more-lower h f qs ps back x) (more-lower f h ps qs to x)
 
 -- ---- by leaders in memory
 module _ (touch : ℕ → ℕ → Bool) (n : ℕ) where
@@ -188,11 +196,34 @@ module _ (g : Geometry) where
           let q : getD p b 0 ≡ getD p a 0 = eqb→eq (getD p b 0) (getD p a 0) (true-T (not-turn (eqb (getD p b 0) (getD p a 0)) false e)) in
           sym (s .roots a (w .0)) ∙ root-next (s .falling) a ∙ ap (root p) (sym q) ∙ sym (root-next (s .falling) b) ∙ s .roots b (w .1)
 
+-- ---- linked pairs
+module _ (g : Geometry) where
+  pub touch-links : (c d : ℕ) → T (touchAt g c d) → T (linkAt g c d)
+  unfolding linkAt
+  touch-links c d = or-one (touchAt g c d) (touchAt g d c)
+
+  touch-links-back : (c d : ℕ) → T (touchAt g c d) → T (linkAt g d c)
+  unfolding linkAt
+  touch-links-back c d = or-two (touchAt g d c) (touchAt g c d)
+
+  module _ (L : Lawful g) where
+    -- pairs stand both ways round
+    pair-turn : (a b : ℕ) → T (pairAt g a b) → T (pairAt g b a)
+    pair-turn a b t = let p = pair-parts g a b t in parts-pair g b a (p .1) (p .0) (listed-turn g L (cellAt g a) (cellAt g b) (p .2))
+
+    -- so one that is linked touches, as it stands or turned
+    link-touches : (a b : ℕ) → In (a, b) (pairsOf g) → T (linkAt g a b) → Link (touchAt g) (pairsOf g) a b
+    unfolding linkAt
+    link-touches a b i t =
+        let z = in-pairs g a b i in
+        elim (or-cases (touchAt g a b) (touchAt g b a) t) [ inl u ↦ inl (i, u) | inr u ↦ inr (pairs-in g b a (z .1) (z .0) (pair-turn a b (z .2)), u) ]
+
 -- ---- the pairs by lists, in any order
--- a list has the core cells that its cell lists, and no others
+-- a list has core cells that its cell lists, and no others; of two core cells that list each other one has the other on its list
 pub record Lists (g : Geometry) (lists : ℕ → List ℕ) : Type 0 where
   pub sound : (c d : ℕ) → c < length (cells g) → In d (lists c) → (d < length (cells g)) × T (coreCell g (cellAt g d)) × T (listed g (cellAt g c) (cellAt g d))
-  pub complete : (c d : ℕ) → c < length (cells g) → d < length (cells g) → T (coreCell g (cellAt g d)) → T (listed g (cellAt g c) (cellAt g d)) → In d (lists c)
+  pub complete : (c d : ℕ) → c < length (cells g) → d < length (cells g) → (c ≡ d → ⊥) → T (coreCell g (cellAt g c)) → T (coreCell g (cellAt g d)) → T (listed g (cellAt g c) (cellAt g d))
+      → In d (lists c) ⊎ In c (lists d)
 
 module _ (g : Geometry) (lists : ℕ → List ℕ) where
   abbrev cellCount : ℕ
@@ -211,14 +242,19 @@ module _ (g : Geometry) (lists : ℕ → List ℕ) where
         let k = in-keep (pairAt g c) (x .0) (lists c) (x .1) in
         subst (λ (z : ℕ × ℕ). In z (pairsOf g)) (sym (x .2)) (pairs-in g c (x .0) h (exact .sound c (x .0) h (k .0) .0) (k .1))
 
-    in-by : (a b : ℕ) → In (a, b) (pairsOf g) → In (a, b) (pairsBy g lists (numbers cellCount))
+    -- a cell of c's list that is with it a pair
+    list-in : (c d : ℕ) → c < cellCount → In d (lists c) → T (pairAt g c d) → In (c, d) (pairsBy g lists (numbers cellCount))
     unfolding pairsBy pairsWith
-    in-by a b i =
+    list-in c d h i t =
         let all = numbers cellCount in
+        concat-in (c, d) (pairsWith g c (lists c)) (map (λ c. pairsWith g c (lists c)) all) (map-in (λ c. pairsWith g c (lists c)) c all (numbers-in cellCount c h))
+        (map-in (λ d. (c, d)) d (keep (pairAt g c) (lists c)) (keep-in (pairAt g c) d (lists c) i t))
+
+    in-by : Lawful g → (a b : ℕ) → (a ≡ b → ⊥) → In (a, b) (pairsOf g) → In (a, b) (pairsBy g lists (numbers cellCount)) ⊎ In (b, a) (pairsBy g lists (numbers cellCount))
+    in-by L a b n i =
         let z = in-pairs g a b i in
         let p = pair-parts g a b (z .2) in
-        concat-in (a, b) (pairsWith g a (lists a)) (map (λ c. pairsWith g c (lists c)) all) (map-in (λ c. pairsWith g c (lists c)) a all (numbers-in cellCount a (z .0)))
-        (map-in (λ d. (a, d)) b (keep (pairAt g a) (lists a)) (keep-in (pairAt g a) b (lists a) (exact .complete a b (z .0) (z .1) (p .1) (p .2)) (z .2)))
+        elim (exact .complete a b (z .0) (z .1) n (p .0) (p .1) (p .2)) [ inl j ↦ inl (list-in a b (z .0) j (z .2)) | inr j ↦ inr (list-in b a (z .1) j (pair-turn g L a b (z .2))) ]
 
     -- leaders in memory go as sets do that meet all pairs
     rows-stand : (touch : ℕ → ℕ → Bool) (cs : List ℕ) → Below cellCount cs → {l : ℕ → ℕ} {p : List ℕ} → Stands cellCount l p
@@ -230,24 +266,41 @@ module _ (g : Geometry) (lists : ℕ → List ℕ) where
         rw (meet-append byLowest touch (pairsWith g c (lists c)) (pairsBy g lists cs) l) (rows-stand touch cs (λ d i. below d (inr i))
         (row-stands g touch cellCount c (lists c) h (λ d i. exact .sound c d h i .0) (shorten-stands s c h)))
 
-    module _ (trials : ℕ) (enough : cellCount * cellCount ≤ trials) (before : List (ℕ × ℕ)) (some : (a b : ℕ) → In (a, b) before → In (a, b) (pairsOf g)) where
+    module _ (L : Lawful g) (trials : ℕ) (enough : cellCount * cellCount ≤ trials) (before : List (ℕ × ℕ)) (some : (a b : ℕ) → In (a, b) before → In (a, b) (pairsOf g)) where
       abbrev all : List (ℕ × ℕ)
       all = pairsBy g lists (numbers cellCount)
 
+      one-of : (a b : ℕ) → In (a, b) (before ++ all) → In (a, b) (pairsOf g)
+      one-of a b i = elim (in-append (a, b) before all i) [ inl j ↦ some a b j | inr j ↦ by-in a b j ]
+
+      to-links : (a b : ℕ) → (a ≡ b → ⊥) → Link (linkAt g) (before ++ all) a b → Link (touchAt g) (pairsOf g) a b
+      to-links a b n (inl i) = link-touches g L a b (one-of a b (i .0)) (i .1)
+      to-links a b n (inr i) = elim (link-touches g L b a (one-of b a (i .0)) (i .1)) [ inl j ↦ inr j | inr j ↦ inl j ]
+
+      touch-links-all : (a b : ℕ) → (a ≡ b → ⊥) → In (a, b) (pairsOf g) → T (touchAt g a b) → Link (linkAt g) (before ++ all) a b
+      touch-links-all a b n i t = elim (in-by L a b n i) [
+        | inl j ↦ inl (append-two (a, b) before all j, touch-links g a b t)
+        | inr j ↦ inr (append-two (b, a) before all j, touch-links-back g a b t)
+      ]
+
+      back-links : (a b : ℕ) → (a ≡ b → ⊥) → Link (touchAt g) (pairsOf g) a b → Link (linkAt g) (before ++ all) a b
+      back-links a b n (inl i) = touch-links-all a b n (i .0) (i .1)
+      back-links a b n (inr i) = elim (touch-links-all b a (λ e. n (sym e)) (i .0) (i .1)) [ inl j ↦ inr j | inr j ↦ inl j ]
+
       -- some of the pairs and then all of them leave what enough trials leave
-      by-lowest : (x : ℕ) → meetAll byLowest (touchAt g) all (meetAll byLowest (touchAt g) before (λ c. c)) x ≡ lowestAt g trials x
+      by-lowest : (x : ℕ) → meetAll byLowest (linkAt g) all (meetAll byLowest (linkAt g) before (λ c. c)) x ≡ lowestAt g trials x
       unfolding lowestAt uniting
       by-lowest x =
-          ap (λ (l : ℕ → ℕ). l x) (sym (meet-append byLowest (touchAt g) before all (λ c. c)))
-          ∙ any-order (touchAt g) (before ++ all) (pairsOf g) (λ a b i. elim (in-append (a, b) before all i) [ inl j ↦ some a b j | inr j ↦ by-in a b j ]) (λ a b i. append-two (a, b) before all (in-by a b i)) x
+          ap (λ (l : ℕ → ℕ). l x) (sym (meet-append byLowest (linkAt g) before all (λ c. c)))
+          ∙ any-order (linkAt g) (touchAt g) (before ++ all) (pairsOf g) to-links back-links x
           ∙ ap (λ (l : ℕ → ℕ). l x) (sym (run-meets byLowest (touchAt g) trials 0 (pairsOf g) (λ c. c) (omega (arith, pairs-few g))))
 
-      pub lists-stand : Stands cellCount (lowestAt g trials) (meetLists g (touchAt g) lists (numbers cellCount) (meetAll byOwnLeaders (touchAt g) before (column (λ c. c) cellCount)))
+      pub lists-stand : Stands cellCount (lowestAt g trials) (meetLists g (linkAt g) lists (numbers cellCount) (meetAll byOwnLeaders (linkAt g) before (column (λ c. c) cellCount)))
       lists-stand =
           let within : Within cellCount before = λ a b i. let z = in-pairs g a b (some a b i) in (z .0, z .1) in
-          let s = rows-stand (touchAt g) (numbers cellCount) (in-numbers cellCount) (all-stand (touchAt g) cellCount before within (alone-stands cellCount)) in
+          let s = rows-stand (linkAt g) (numbers cellCount) (in-numbers cellCount) (all-stand (linkAt g) cellCount before within (alone-stands cellCount)) in
           record { falling = s .falling; size = s .size; roots = λ c h. s .roots c h ∙ by-lowest c }
 
--- the lists that cells have are such
-pub list-listed : {ps : List ℤ} {v : ValidParams} {n : ℕ} → Ready ps v n → Lists (geometryAt v n ps) (listOf v n ps)
-list-listed r = record { sound = λ c d h. list-sound r c h d; complete = λ c d h. list-complete r c h d }
+-- the cells that each cell finds from its own row on are such
+pub later-lists : {ps : List ℤ} {v : ValidParams} {n : ℕ} → Ready ps v n → Lists (geometryAt v n ps) (laterOf v n ps)
+later-lists r = record { sound = λ c d h. later-sound r c h d; complete = later-complete r }

@@ -14,6 +14,7 @@ ghost use Rattle.clustering.specs.Uniting.{lowestAt};
 ghost use Rattle.clustering.specs.Numbering.{clusterWord};
 
 pub mod labels;
+pub mod linking;
 pub mod uniting;
 
 // The regions, of one word a frame. From 6n on the leader of each cell.

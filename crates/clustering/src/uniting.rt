@@ -1,6 +1,7 @@
 // Uniting the linked core cells (`unite_neighbouring_cells` of the source's CellsGrid): by trials of which there is a given number,
 // and by the cells' lists with no count, after those that are close.
 use crate::LEADERS;
+use crate::linking::is_linked;
 use cells_grid::PLACES;
 use cells_grid::STARTS;
 use cells_grid::listing::LIST;
@@ -15,13 +16,13 @@ ghost use Rattle.lists.specs.Lists.{numbers, In};
 ghost use Rattle.lists.specs.Words.{over, part, column, Clear};
 ghost use Rattle.counting_tree.specs.Ready.{geometryAt, Ready};
 ghost use Rattle.cells_grid.specs.Arrangement.{cellAt};
-ghost use Rattle.cells_grid.specs.Listing.{listOf, CellsSorted};
+ghost use Rattle.cells_grid.specs.Listing.{laterOf, CellsSorted};
 ghost use Rattle.core_cells.specs.Forest.{Grown};
 ghost use Rattle.partitions.specs.Leaders.{Falling, root};
 ghost use Rattle.partitions.specs.Trials.{run, byLeaders};
 ghost use Rattle.clustering.specs.Clusters.{touches};
 ghost use Rattle.clustering.specs.Uniting.{pairAt, onePair, pairsWith, pairsOf, touchAt, stopped, progressOf, uniting, lowestAt};
-ghost use Rattle.clustering.specs.UniteAll.{meetAll, byOwnLeaders, meetLists};
+ghost use Rattle.clustering.specs.UniteAll.{linkAt, meetAll, byOwnLeaders, meetLists};
 ghost use Rattle.clustering.specs.Close.{sortedCells, closeAt, closePair, closePairs};
 
 // With how many of those before it a sorted cell is taken, before any search.
@@ -220,7 +221,7 @@ pub fn unite_neighbouring_cells(
     p
 }
 
-// Takes a pair of cells: where they are in two sets and c touches d, makes one set of theirs.
+// Takes a pair of cells: where they are in two sets and linked, makes one set of theirs.
 // (Two cells that have one leader are in one set: this is asked first.)
 fn meet_cells(
     points: &[i16],
@@ -235,7 +236,7 @@ fn meet_cells(
     requires { ⌜ (7 * n ≤ length (now work)) × Falling (part (now work) (6 * n) k) ⌝ }
     requires { ⌜ T (pairAt (geometryAt v n (now points)) c d) ⌝ }
     ensures { λ _. ⌜ (let g = geometryAt v n (now (points .entry)) in now (work .exit) ≡ over (now (work .entry)) (6 * n)
-        (meetAll byOwnLeaders (touchAt g) (onePair g c d) (part (now (work .entry)) (6 * n) k))) ⌝ }
+        (meetAll byOwnLeaders (linkAt g) (onePair g c d) (part (now (work .entry)) (6 * n) k))) ⌝ }
 {
     let a = LEADERS * n;
     if lists::word(work, a + c) == lists::word(work, a + d) {
@@ -245,7 +246,7 @@ fn meet_cells(
     if partitions::same_set(&mut work[a..e], c, d) {
         return;
     }
-    if touches_cell(points, v, n, k, work, c, d) {
+    if is_linked(points, v, n, k, work, c, d) {
         partitions::union(&mut work[a..e], c, d);
     }
 }
@@ -264,7 +265,7 @@ fn unite_list(
     requires { ⌜ (16 * n ≤ length (now work)) × Falling (part (now work) (6 * n) k) ⌝ }
     requires { ⌜ ((d : ℕ) → In d (part (now work) (15 * n) m) → (d < k) × T (pairAt (geometryAt v n (now points)) c d)) ⌝ }
     ensures { λ _. ⌜ (let g = geometryAt v n (now (points .entry)) in now (work .exit) ≡ over (now (work .entry)) (6 * n)
-        (meetAll byOwnLeaders (touchAt g) (pairsWith g c (part (now (work .entry)) (15 * n) m)) (part (now (work .entry)) (6 * n) k))) ⌝ }
+        (meetAll byOwnLeaders (linkAt g) (pairsWith g c (part (now (work .entry)) (15 * n) m)) (part (now (work .entry)) (6 * n) k))) ⌝ }
 {
     let mut j = 0;
     while j < m {
@@ -274,13 +275,13 @@ fn unite_list(
     }
 }
 
-// Takes each core cell with the cells of its list. (Most of these already have the lowest cell of its set for their leader:
-// so this is looked for first, whatever leader the cell itself has, and the list is made without them.)
+// Takes each core cell with the core cells that it finds from its own row on: so two cells that list each other are met once. (Most of these already have
+// the lowest cell of its set for their leader: so this is looked for first, whatever leader the cell itself has, and the list is made without them.)
 fn unite_lists(points: &[i16], v: ValidParams, n: usize, k: usize, work: &mut [Word])
     requires { ⌜ Ready (now points) v n × Grown (geometryAt v n (now points)) k (now work) × CellsSorted v n (now points) (now work) ⌝ }
     requires { ⌜ (16 * n ≤ length (now work)) × Clear (now work) (15 * n) n × Falling (part (now work) (6 * n) k) ⌝ }
     ensures { λ _. ⌜ (let g = geometryAt v n (now (points .entry)) in now (work .exit) ≡ over (now (work .entry)) (6 * n)
-        (meetLists g (touchAt g) (listOf v n (now (points .entry))) (numbers k) (part (now (work .entry)) (6 * n) k))) ⌝ }
+        (meetLists g (linkAt g) (laterOf v n (now (points .entry))) (numbers k) (part (now (work .entry)) (6 * n) k))) ⌝ }
 {
     let a = LEADERS * n;
     let e = a + k;
@@ -289,7 +290,7 @@ fn unite_lists(points: &[i16], v: ValidParams, n: usize, k: usize, work: &mut [W
         let next = c + 1;
         let leader = partitions::find(&mut work[a..e], c);
         if core_cells::is_core_cell(work, n, c) {
-            let m = cells_grid::listing::list_unmarked(points, v, n, k, work, c, a, leader);
+            let m = cells_grid::listing::list_later(points, v, n, k, work, c, a, leader);
             unite_list(points, v, n, k, work, c, m);
             lists::clear_words(work, LIST * n, m);
             c = next;
@@ -337,7 +338,7 @@ fn meet_close(
     requires { ⌜ Ready (now points) v n × Grown (geometryAt v n (now points)) k (now work) × (later < k) × (earlier < k) ⌝ }
     requires { ⌜ (7 * n ≤ length (now work)) × Falling (part (now work) (6 * n) k) ⌝ }
     ensures { λ _. ⌜ now (work .exit) ≡ over (now (work .entry)) (6 * n)
-        (meetAll byOwnLeaders (touchAt (geometryAt v n (now (points .entry)))) (closePair v n (now (points .entry)) later earlier) (part (now (work .entry)) (6 * n) k)) ⌝ }
+        (meetAll byOwnLeaders (linkAt (geometryAt v n (now (points .entry)))) (closePair v n (now (points .entry)) later earlier) (part (now (work .entry)) (6 * n) k)) ⌝ }
 {
     let a = LEADERS * n;
     if lists::word(work, a + later) == lists::word(work, a + earlier) {
@@ -358,7 +359,7 @@ fn meet_close(
 fn unite_close_cells(points: &[i16], v: ValidParams, n: usize, k: usize, work: &mut [Word])
     requires { ⌜ Ready (now points) v n × Grown (geometryAt v n (now points)) k (now work) × CellsSorted v n (now points) (now work) ⌝ }
     requires { ⌜ (16 * n ≤ length (now work)) × Falling (part (now work) (6 * n) k) ⌝ }
-    ensures { λ _. ⌜ now (work .exit) ≡ over (now (work .entry)) (6 * n) (meetAll byOwnLeaders (touchAt (geometryAt v n (now (points .entry))))
+    ensures { λ _. ⌜ now (work .exit) ≡ over (now (work .entry)) (6 * n) (meetAll byOwnLeaders (linkAt (geometryAt v n (now (points .entry))))
         (closePairs v n (now (points .entry)) (sortedCells (now (work .entry)) n k)) (part (now (work .entry)) (6 * n) k)) ⌝ }
 {
     let turns = BACK * cells_grid::listing::sorted_count(work, n, k);

@@ -3,6 +3,8 @@ pub mod Counting
 pub mod Gathering
 pub mod Growing
 pub mod Looking
+pub mod Pairing
+pub mod Placing
 pub mod Reaching
 pub mod Rooted
 pub mod Spanning

@@ -1,4 +1,4 @@
--- The loops over the places that are looked at: the frames read, the least number found, and whether some frame passes a test. And the far reach in 64 bits.
+-- The loops over the places that are looked at: the frames read, the least number found, whether some frame passes a test, and what all core frames tell. And the far reach in 64 bits.
 use mathlib.Core.Path.{_≡_, refl, sym, ap, subst, _∙_}
 use mathlib.Core.Logic.{inl, inr}
 use mathlib.Core.Bool.{Bool, true, false, cond}
@@ -14,10 +14,13 @@ use Rattle.lists.specs.Lists.{In, any}
 use Rattle.lists.specs.Words.{part}
 use Rattle.lists.specs.ListLaws.{in-append, at-in}
 use Rattle.lists.specs.PartLaws.{part-length, part-at, part-below, part-snoc}
+use Rattle.counting_tree.specs.declared.IntersectionType.{IntersectionType}
+use Rattle.counting_tree.specs.declared.IntersectionType.the-variants.{Disjoint, FullyCovered, Intersecting}
 use Rattle.counting_tree.specs.Sound.{four-power}
 use Rattle.core_cells.specs.Forest.{coreAmong}
 use Rattle.core_cells.specs.Nearest.{CanLook, beyond, leastUntil, outOfReach}
 use Rattle.core_cells.specs.NearestLaws.{among-none, among-first, least-none, least-stop, least-next}
+use Rattle.core_cells.specs.Settling.{joined, joinedOver}
 
 -- the frame at a place
 pub look-below : {w : List ℕ} {n from to : ℕ} → CanLook w n from to → {p x : ℕ} → p < to → x ≡ getD w (3 * n + p) 0 → x < n
@@ -142,6 +145,60 @@ module _ {f : ℕ → Bool} {w : List ℕ} {n from to : ℕ} where
   seeking-end {p} I h =
       let e : p ≡ to = omega (arith, I .high) in
       ap (any f) (sym (ap (λ (y : ℕ). coreAmong w n y to) e ∙ among-none w n to)) ∙ I .value
+
+-- ---- what f tells of the core frames at the places from p on, with what is told of those before, is what it tells of all:
+-- of those before it tells Intersecting, if one is unsettled, or else Disjoint
+pub record Joining (f : ℕ → IntersectionType) (w : List ℕ) (n from to : ℕ) (unsettled : Bool) (p : ℕ) : Type 0 where
+  pub can : CanLook w n from to
+  pub low : from ≤ p
+  pub high : p ≤ to
+  pub value : joined (cond unsettled Intersecting Disjoint) (joinedOver f (coreAmong w n p to)) ≡ joinedOver f (coreAmong w n from to)
+
+after-covered : (b : Bool) → joined (cond b Intersecting Disjoint) FullyCovered ≡ FullyCovered
+after-covered true = refl
+after-covered false = refl
+
+after-open : (b : Bool) (t : IntersectionType) → joined (cond b Intersecting Disjoint) (joined Intersecting t) ≡ joined Intersecting t
+after-open false t = refl
+after-open true Disjoint = refl
+after-open true FullyCovered = refl
+after-open true Intersecting = refl
+
+after-none : (b : Bool) → joined (cond b Intersecting Disjoint) Disjoint ≡ cond b Intersecting Disjoint
+after-none true = refl
+after-none false = refl
+
+module _ {f : ℕ → IntersectionType} {w : List ℕ} {n from to : ℕ} where
+  pub joining-start : CanLook w n from to → Joining f w n from to false from
+  joining-start can = record { can = can; low = omega arith; high = can .order; value = refl }
+
+  module _ {b : Bool} {p x : ℕ} (I : Joining f w n from to b p) (h : p < to) (e : x ≡ getD w (3 * n + p) 0) where
+    abbrev before : IntersectionType → IntersectionType
+    before = joined (cond b Intersecting Disjoint)
+
+    pub joining-miss : false ≡ eqb (getD w (4 * n + x) 0) 1 → Joining f w n from to b (p + 1)
+    joining-miss q = record { can = I .can; low = omega (arith, I .low); high = omega arith; value = ap (λ (xs : List ℕ). before (joinedOver f xs)) (sym (look-first (I .can) h e false q)) ∙ I .value }
+
+    -- of a core frame
+    module _ (q : true ≡ eqb (getD w (4 * n + x) 0) 1) {t : IntersectionType} (k : t ≡ f x) where
+      told : {u : IntersectionType} → t ≡ u → before (joined u (joinedOver f (coreAmong w n (p + 1) to))) ≡ joinedOver f (coreAmong w n from to)
+      told z =
+          ap (λ (u : IntersectionType). before (joined u (joinedOver f (coreAmong w n (p + 1) to)))) (sym z ∙ k)
+          ∙ ap (λ (xs : List ℕ). before (joinedOver f xs)) (sym (look-first (I .can) h e true q)) ∙ I .value
+
+      pub joining-apart : t ≡ Disjoint → Joining f w n from to b (p + 1)
+      joining-apart z = record { can = I .can; low = omega (arith, I .low); high = omega arith; value = told z }
+
+      pub joining-open : t ≡ Intersecting → Joining f w n from to true (p + 1)
+      joining-open z = record { can = I .can; low = omega (arith, I .low); high = omega arith; value = sym (after-open b (joinedOver f (coreAmong w n (p + 1) to))) ∙ told z }
+
+      pub joining-covered : t ≡ FullyCovered → FullyCovered ≡ joinedOver f (coreAmong w n from to)
+      joining-covered z = sym (after-covered b) ∙ told z
+
+  pub joining-end : {b : Bool} {p : ℕ} → Joining f w n from to b p → to ≤ p → cond b Intersecting Disjoint ≡ joinedOver f (coreAmong w n from to)
+  joining-end {b} {p} I h =
+      let e : p ≡ to = omega (arith, I .high) in
+      sym (ap (λ (xs : List ℕ). joined (cond b Intersecting Disjoint) (joinedOver f xs)) (ap (λ (y : ℕ). coreAmong w n y to) e ∙ among-none w n to) ∙ after-none b) ∙ I .value
 
 -- ---- the far reach: a is 2 ^ s
 pub shifted : (s : ℕ) → s ≤ 10 → 1 * 2 ^ s % 2 ^ 64 ≡ 2 ^ s

@@ -3,17 +3,16 @@ use mathlib.Core.Path.{_≡_, refl, sym, ap, subst, _∙_}
 use mathlib.Core.Logic.{_⊎_, ⊎-elim}
 use mathlib.Core.Bool.{Bool, true, false, not, cond}
 use mathlib.Core.List.{List}
-use Prim.Native.Nat.{ℕ, _+_, _-_, _*_, _^_, _<_, _≤_}
+use Prim.Native.Nat.{ℕ, _+_, _-_, _*_, _<_, _≤_}
 use native.Mathlib.Omega.{arith}
-use native.Mathlib.Nat.{mul-le-mul-right}
-use borrow.Author.Tests.{leb-true, not-false}
+use borrow.Author.Tests.{not-false}
 use lib.IntN.{ℤ}
-use lib.Dec.{T, ltb, eqb}
+use lib.Dec.{ltb, eqb}
 use lib.ListN.{length, getD, take}
 use lib.Ieee.{Float}
 use Rattle.lists.specs.Lists.{In, Below, any, nonzero}
 use Rattle.lists.specs.Words.{part}
-use Rattle.lists.specs.ListLaws.{true-T, T-true, both-ways, nonzero-eqb, any-in, any-none}
+use Rattle.lists.specs.ListLaws.{true-T, T-true, both-ways, nonzero-eqb, any-in}
 use Rattle.hyperparams.specs.declared.ValidParams.{ValidParams}
 use Rattle.hyperparams.specs.Params.{float}
 use Rattle.counting_tree.specs.declared.Box.{Box}
@@ -22,13 +21,13 @@ use Rattle.counting_tree.specs.declared.IntersectionType.the-variants.{Disjoint
 use Rattle.counting_tree.specs.Frames.{Frame, framesIn, floats}
 use Rattle.counting_tree.specs.Grid.{sideAt, centres}
 use Rattle.counting_tree.specs.Box.{sumFrom}
-use Rattle.counting_tree.specs.Geometry.{Geometry, frame, N, boxAt, FarReach}
+use Rattle.counting_tree.specs.Geometry.{Geometry, frame, N, boxAt}
 use Rattle.counting_tree.specs.Paths as Paths
 use Rattle.counting_tree.specs.Paths.{onBox}
 use Rattle.counting_tree.specs.Domain.{Counts}
 use Rattle.counting_tree.specs.Ready.{geometryAt, Ready, at-frames, square-fits}
 use Rattle.counting_tree.specs.Indexes.{box-level}
-use Rattle.counting_tree.specs.Reach.{near-reaches, reaches-far}
+use Rattle.counting_tree.specs.Reach.{near-reaches}
 use Rattle.counting_tree.specs.Settled.{settledBy}
 use Rattle.counting_tree.specs.SettledLaws.{settled-disjoint, settled-covered}
 use Rattle.cells_grid.specs.Cells.{node, count}
@@ -43,10 +42,11 @@ use Rattle.tree_structure.specs.Encode.{toldOf}
 use Rattle.core_cells.specs.Forest.{coreAmong, treeFrames, isCore, Grown}
 use Rattle.core_cells.specs.ForestLaws.{frames-below, no-tree-node, is-core-cell, among-core}
 use Rattle.core_cells.specs.Nearest.{CanLook, beyond, leastUntil, outOfReach}
-use Rattle.core_cells.specs.NearestLaws.{among-place, least-found, least-le}
+use Rattle.core_cells.specs.NearestLaws.{among-place, least-found, least-le, out-farther}
 use Rattle.core_cells.specs.RootBox.{rootBox, rootUnless}
 use Rattle.core_cells.specs.RootBoxLaws.{one-root, disjoint-count, covered-count, root-centre}
 use Rattle.core_cells.specs.Settling.{settledByLeast, settledByFrames, settledByRoot, Tells}
+use Rattle.core_cells.specs.SettlingLaws.{no-path, none-in-reach}
 use Rattle.core_cells.proofs.Counting.{word-inside}
 use Rattle.core_cells.proofs.Rooted.{first-is, first-low}
 
@@ -69,16 +69,10 @@ pub asked : {ps : List ℤ} {v : ValidParams} {n k : ℕ} {w : List ℕ} {q c : 
 asked p = (p .0, p .1, p .2, p .3)
 
 -- a frame out of reach does not reach by its own path
-module _ {ps : List ℤ} {v : ValidParams} {n : ℕ} (r : Ready ps v n) {q x : ℕ} (hq : q < n) (hx : x < n)
-    (cq : Counts (frame v (framesIn n (v .channels) ps) q)) (cx : Counts (frame v (framesIn n (v .channels) ps) x)) where
-  no-path : (d : ℕ) → outOfReach (v .t) (v .s) d ≡ true → d ≤ N v (framesIn n (v .channels) ps) q x → T (Paths.reaches (geometryAt v n ps .box q) (geometryAt v n ps .levels) 0 x) → ⊥
-  unfolding outOfReach
-  no-path d o l t =
-      let f : FarReach v (framesIn n (v .channels) ps) q x = reaches-far r q x hq hx cq cx t in
-      omega (arith, f, leb-true (v .t * (2 ^ v .s + 1) * (v .t * (2 ^ v .s + 1)) + 4 ^ v .s) (d * 4 ^ v .s) o, mul-le-mul-right (4 ^ v .s) l)
-
-  pub no-reach : {d : ℕ} → d ≡ N v (framesIn n (v .channels) ps) q x → outOfReach (v .t) (v .s) d ≡ true → false ≡ Paths.reaches (geometryAt v n ps .box q) (geometryAt v n ps .levels) 0 x
-  no-reach {d} e o = both-ways false (Paths.reaches (geometryAt v n ps .box q) (geometryAt v n ps .levels) 0 x) (λ t. absurd t) (λ t. absurd (no-path d o (omega arith) t))
+pub no-reach : {ps : List ℤ} {v : ValidParams} {n : ℕ} → Ready ps v n → {q x : ℕ} → q < n → x < n → Counts (frame v (framesIn n (v .channels) ps) q) → Counts (frame v (framesIn n (v .channels) ps) x)
+    → {d : ℕ} → d ≡ N v (framesIn n (v .channels) ps) q x → outOfReach (v .t) (v .s) d ≡ true → false ≡ Paths.reaches (geometryAt v n ps .box q) (geometryAt v n ps .levels) 0 x
+no-reach {ps} {v} {n} r {q} {x} hq hx cq cx e o =
+    both-ways false (Paths.reaches (geometryAt v n ps .box q) (geometryAt v n ps .levels) 0 x) (λ t. absurd t) (λ t. absurd (no-path r hq hx cq cx (ap (outOfReach (v .t) (v .s)) (sym e) ∙ o) t))
 
 module _ {ps : List ℤ} {v : ValidParams} {n k : ℕ} {w : List ℕ} {q c : ℕ} (p : Ready ps v n × Grown (geometryAt v n ps) k w × (q < n) × (c < k)) where
   abbrev g : Geometry
@@ -179,15 +173,6 @@ module _ {ps : List ℤ} {v : ValidParams} {n k : ℕ} {w : List ℕ} {q c : ℕ
     test-open z ef ee y i = one-root g L q (cellAt g c) Intersecting (tested z) y (in-member g (cellAt g c) y (subst (In y) (cell-places g L (C .cells) n e c (p .3) ef ee) i) .1)
 
   -- ---- its frames
-  -- all at least as far as a number that is out of reach
-  pub none-in-reach : Counts (frame v (framesIn n (v .channels) ps) q) → (d : ℕ) → outOfReach (v .t) (v .s) d ≡ true
-      → ((x : ℕ) → In x (treeFrames (geometryAt v n ps) c) → Counts (frame v (framesIn n (v .channels) ps) x) × (d ≤ N v (framesIn n (v .channels) ps) q x))
-      → false ≡ nonzero (count (geometryAt v n ps) q (cellAt (geometryAt v n ps) c))
-  none-in-reach own d o far =
-      sym
-      (count-path g L q (cellAt g c)
-      ∙ any-none (Paths.reaches (g .box q) (g .levels) 0) (treeFrames g c) (λ x i t. no-path (p .0) (p .2) (omega (arith, frames-below g c x i, e)) own (far x i .0) d o (far x i .1) t))
-
   module _ {from end : ℕ} (ef : from ≡ getD w (2 * n + c) 0) (ee : end ≡ endIn w n k c) where
     pub can-look : CanLook w n from end
     can-look = record {
@@ -226,7 +211,7 @@ module _ {ps : List ℤ} {v : ValidParams} {n k : ℕ} {w : List ℕ} {q c : ℕ
           by-paths (sym (T-true (any path (coreAmong w n from end)) (any-in path (z .0) (coreAmong w n from end) (z .1) t)))
 
       pub out : v .t * v .t ≤ least → outOfReach (v .t) (v .s) least ≡ true → false ≡ nonzero (count (geometryAt v n ps) q (cellAt (geometryAt v n ps) c))
-      out l o = none-in-reach own least o (λ x i. let j = subst (In x) (sym among) i in (all x (among-place w n from end x j), low x j))
+      out l o = none-in-reach (p .0) (p .2) own c (λ x i. let j = subst (In x) (sym among) i in (all x (among-place w n from end x j), out-farther (v .t) (v .s) (low x j) o))
         where
           low : (x : ℕ) → In x (coreAmong w n from end) → least ≤ N v fs q x
           low x i = omega (arith, el, least-le (v .t * v .t) (N v fs q) beyond (coreAmong w n from end) (omega (arith, el)) .1 x i)

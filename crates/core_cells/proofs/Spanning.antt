@@ -11,31 +11,31 @@ use lib.Dec.{ltb}
 use lib.ListN.{length, getD, replicate}
 use Rattle.lists.specs.Lists.{In, Below}
 use Rattle.lists.specs.Words.{over, part}
-use Rattle.lists.specs.ListLaws.{in-keep, map-same}
+use Rattle.lists.specs.ListLaws.{map-same}
 use Rattle.lists.specs.OrderLaws.{below-at}
 use Rattle.lists.specs.PartLaws.{part-step}
 use Rattle.hyperparams.specs.declared.ValidParams.{ValidParams}
-use Rattle.counting_tree.specs.declared.IntersectionType.the-variants.{Disjoint}
 use Rattle.counting_tree.specs.Frames.{Frame, framesIn}
 use Rattle.counting_tree.specs.Geometry.{Geometry, frame, N}
 use Rattle.counting_tree.specs.Domain.{Counts}
 use Rattle.counting_tree.specs.Ready.{geometryAt, Ready, at-frames}
 use Rattle.blocks.specs.Blocks.{raise, edge, edgesOf}
 use Rattle.blocks.proofs.Edges.{row-long}
-use Rattle.cells_grid.specs.Cells.{core, members, coreMembers}
+use Rattle.cells_grid.specs.Cells.{members}
 use Rattle.cells_grid.specs.Ready.{ready-lawful}
 use Rattle.cells_grid.specs.Arrangement.{cellAt}
 use Rattle.cells_grid.specs.Places.{endIn}
-use Rattle.cells_grid.specs.ArrangementLaws.{cell-size, cell-places}
+use Rattle.cells_grid.specs.ArrangementLaws.{cell-size}
 use Rattle.core_cells.specs.declared.spans.Span.{Span}
 use Rattle.core_cells.specs.Forest.{treeFrames, Grown}
-use Rattle.core_cells.specs.ForestLaws.{frames-below}
 use Rattle.core_cells.specs.Nearest.{CanLook, outOfReach}
-use Rattle.core_cells.specs.Settling.{Tells}
+use Rattle.core_cells.specs.NearestLaws.{out-farther}
+use Rattle.core_cells.specs.Settling.{Apart}
+use Rattle.core_cells.specs.SettlingLaws.{core-member, tree-low, far-apart}
 use Rattle.core_cells.specs.Spans.{many, lower, higher, lowest, highest, through, spanFrom, LowEnds, gap, squareGap, raisedAt, cellSpan, apartBySpans}
 use Rattle.core_cells.specs.SpansLaws.{Within, span-first, square-gap-le, cell-within}
-use Rattle.core_cells.proofs.Rooted.{first-is, first-low}
-use Rattle.core_cells.proofs.Reaching.{slot, cells-fit, can-look, none-in-reach}
+use Rattle.core_cells.proofs.Rooted.{first-is}
+use Rattle.core_cells.proofs.Placing.{cell-frames}
 
 -- ---- the raised counts of a frame
 raised-edges : (f : Frame) → edgesOf 1 0 f ≡ map raise f
@@ -137,35 +137,15 @@ module _ {ps : List ℤ} {v : ValidParams} {n k : ℕ} {w : List ℕ} (r : Ready
   abbrev g : Geometry
   g = geometryAt v n ps
 
-  -- what is asked of the cell and a frame, with its first frame
-  asked : Ready ps v n × Grown g k w × (getD w (n + c) 0 < n) × (c < k)
-  asked = (r, gr, first-low r gr h refl, h)
-
-  pub first-place : n + c < length w
-  first-place = omega (arith, slot asked)
-
-  pub cell-order : (c < k) × (k ≤ n) × (3 * n ≤ length w) × (getD w (2 * n + c) 0 ≤ endIn w n k c)
-  cell-order = (cells-fit asked .0, cells-fit asked .1, cells-fit asked .2, can-look asked refl refl .order)
-
   pub many-frames : {b : Bool} → b ≡ ltb many (endIn w n k c - getD w (2 * n + c) 0) → b ≡ ltb many (length (members (geometryAt v n ps) (cellAt (geometryAt v n ps) c)))
   many-frames q =
       let s : endIn w n k c - getD w (2 * n + c) 0 ≡ length (members g (cellAt g c)) = omega (arith, cell-size g (ready-lawful r) (gr .cored .cells) n (at-frames v n ps) c h refl refl) in
       q ∙ ap (ltb many) s
 
-  module _ {from end : ℕ} (ef : from ≡ getD w (2 * n + c) 0) (ee : end ≡ endIn w n k c) where
-    pub cell-look : CanLook w n from end
-    cell-look = can-look asked ef ee
-
-    places : part w (3 * n + from) (end - from) ≡ members g (cellAt g c)
-    places = cell-places g (ready-lawful r) (gr .cored .cells) n (at-frames v n ps) c h ef ee
-
-    pub cell-span : {x : ℕ} → x ≡ getD w (n + c) 0 → {s : Span} → s ≡ spanFrom (raisedAt v n ps) x (part w (3 * n + from) (end - from)) → s ≡ cellSpan v n ps c
-    unfolding cellSpan
-    cell-span ex es = es ∙ ap₂ (spanFrom (raisedAt v n ps)) (first-is r gr h ex) places
-
-    pub cell-counts : ((x : ℕ) → In x (part w (3 * n + from) (end - from)) → Counts (frame v (framesIn n (v .channels) ps) x))
-        → (x : ℕ) → In x (members (geometryAt v n ps) (cellAt (geometryAt v n ps) c)) → Counts (frame v (framesIn n (v .channels) ps) x)
-    cell-counts all x i = all x (subst (In x) (sym places) i)
+  pub cell-span : {from end : ℕ} → from ≡ getD w (2 * n + c) 0 → end ≡ endIn w n k c → {x : ℕ} → x ≡ getD w (n + c) 0
+      → {s : Span} → s ≡ spanFrom (raisedAt v n ps) x (part w (3 * n + from) (end - from)) → s ≡ cellSpan v n ps c
+  unfolding cellSpan
+  cell-span ef ee ex es = es ∙ ap₂ (spanFrom (raisedAt v n ps)) (first-is r gr h ex) (cell-frames r gr h ef ee)
 
 -- ---- two cells
 module _ {ps : List ℤ} {v : ValidParams} {n k : ℕ} {w : List ℕ} {c d : ℕ} (p : Ready ps v n × Grown (geometryAt v n ps) k w × (c < k) × (d < k))
@@ -189,25 +169,16 @@ module _ {ps : List ℤ} {v : ValidParams} {n k : ℕ} {w : List ℕ} {c d : ℕ
           ∙ ap₂ (λ (x y : Bool). x && (y && outOfReach (v .t) (v .s) (squareGap (cellSpan v n ps c) (cellSpan v n ps d))))
           (sym (not-false a f) ∙ many-frames (p .0) (p .1) (p .2) ea) (sym (not-false b h) ∙ many-frames (p .0) (p .1) (p .3) eb)
 
--- a core frame of a cell is a frame of it
-core-member : (g : Geometry) (c x : ℕ) → In x (treeFrames g c) → In x (members g (cellAt g c))
-unfolding coreMembers
-core-member g c x i = in-keep (core g) x (members g (cellAt g c)) i .0
-
 pub spans-tell : {ps : List ℤ} {v : ValidParams} {n k : ℕ} {w : List ℕ} {c d : ℕ} → Ready ps v n × Grown (geometryAt v n ps) k w × (c < k) × (d < k)
     → {one two : Span} → one ≡ cellSpan v n ps c → two ≡ cellSpan v n ps d
     → ((x : ℕ) → In x (members (geometryAt v n ps) (cellAt (geometryAt v n ps) c)) → Counts (frame v (framesIn n (v .channels) ps) x))
     → ((x : ℕ) → In x (members (geometryAt v n ps) (cellAt (geometryAt v n ps) d)) → Counts (frame v (framesIn n (v .channels) ps) x))
-    → {square : ℕ} → square ≡ squareGap one two → {r : Bool} → r ≡ outOfReach (v .t) (v .s) square → r ≡ true
-    → (q : ℕ) → In q (treeFrames (geometryAt v n ps) c) → Tells v n ps q d Disjoint
-spans-tell {ps} {v} {n} {k} {w} {c} {d} p {one} {two} e1 e2 own all {square} es {r} er o q i =
-    none-in-reach (p .0, p .1, low c q i, p .3) (own q (core-member (geometryAt v n ps) c q i)) square (sym er ∙ o) far
+    → {square : ℕ} → square ≡ squareGap one two → {r : Bool} → r ≡ outOfReach (v .t) (v .s) square → r ≡ true → Apart v n ps c d
+spans-tell {ps} {v} {n} {k} {w} {c} {d} p {one} {two} e1 e2 cc cd {square} es {r} er o = far-apart (p .0) c d cc cd far
   where
-    low : (c x : ℕ) → In x (treeFrames (geometryAt v n ps) c) → x < n
-    low c x j = omega (arith, frames-below (geometryAt v n ps) c x j, at-frames v n ps)
-
-    far : (x : ℕ) → In x (treeFrames (geometryAt v n ps) d) → Counts (frame v (framesIn n (v .channels) ps) x) × (square ≤ N v (framesIn n (v .channels) ps) q x)
-    far x j =
-        let a = core-member (geometryAt v n ps) c q i in
-        let b = core-member (geometryAt v n ps) d x j in
-        (all x b, omega (arith, es ∙ ap₂ squareGap e1 e2, square-gap-le (p .0) (low c q i) (low d x j) (cell-within v n ps c q a) (cell-within v n ps d x b)))
+    far : (q x : ℕ) → In q (treeFrames (geometryAt v n ps) c) → In x (treeFrames (geometryAt v n ps) d) → outOfReach (v .t) (v .s) (N v (framesIn n (v .channels) ps) q x) ≡ true
+    far q x i j =
+        let a = cell-within v n ps c q (core-member (geometryAt v n ps) c q i) in
+        let b = cell-within v n ps d x (core-member (geometryAt v n ps) d x j) in
+        let l : square ≤ N v (framesIn n (v .channels) ps) q x = omega (arith, es ∙ ap₂ squareGap e1 e2, square-gap-le (p .0) (tree-low (p .0) c q i) (tree-low (p .0) d x j) a b) in
+        out-farther (v .t) (v .s) l (sym er ∙ o)

@@ -5,5 +5,6 @@ pub mod NearestLaws
 pub mod RootBox
 pub mod RootBoxLaws
 pub mod Settling
+pub mod SettlingLaws
 pub mod Spans
 pub mod SpansLaws

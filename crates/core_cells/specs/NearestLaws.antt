@@ -1,19 +1,21 @@
--- Laws of the core frames among some places, and of the least number found: below `enough` it is that of an element, else no element's is lower.
-use mathlib.Core.Path.{_≡_, refl}
+-- Laws of the core frames among some places, of the least number found: below `enough` it is that of an element, else no element's is lower;
+-- and of the far reach.
+use mathlib.Core.Path.{_≡_, refl, sym}
 use mathlib.Core.Logic.{inl, inr}
-use mathlib.Core.Bool.{Bool, cond}
+use mathlib.Core.Bool.{Bool, true, cond}
 use mathlib.Core.List.{List, [], _∷_}
-use Prim.Native.Nat.{ℕ, _+_, _-_, _*_, _<_, _≤_}
+use Prim.Native.Nat.{ℕ, _+_, _-_, _*_, _^_, _<_, _≤_}
 use native.Mathlib.Omega.{arith}
-use borrow.Author.Tests.{lt-ltb, le-ltb}
+use native.Mathlib.Nat.{mul-le-mul-right}
+use borrow.Author.Tests.{lt-ltb, le-ltb, leb-true, le-leb}
 use lib.Dec.{ltb, eqb, ltb→lt, nltb→le}
 use lib.ListN.{length, getD}
 use Rattle.lists.specs.Lists.{In}
 use Rattle.lists.specs.Words.{part}
-use Rattle.lists.specs.ListLaws.{T-or-not, cond-true, cond-false, in-keep}
+use Rattle.lists.specs.ListLaws.{true-T, T-or-not, cond-true, cond-false, keep-in, in-keep}
 use Rattle.lists.specs.PartLaws.{part-first}
 use Rattle.core_cells.specs.Forest.{coreAmong}
-use Rattle.core_cells.specs.Nearest.{leastUntil}
+use Rattle.core_cells.specs.Nearest.{leastUntil, outOfReach}
 
 -- ---- core frames among places, by the first place
 pub among-none : (w : List ℕ) (n from : ℕ) → coreAmong w n from from ≡ []
@@ -33,6 +35,10 @@ among-first w n from to h l b q =
 pub among-place : (w : List ℕ) (n from to x : ℕ) → In x (coreAmong w n from to) → In x (part w (3 * n + from) (to - from))
 unfolding coreAmong
 among-place w n from to x i = in-keep (λ i. eqb (getD w (4 * n + i) 0) 1) x (part w (3 * n + from) (to - from)) i .0
+
+pub among-in : (w : List ℕ) (n from to x : ℕ) → In x (part w (3 * n + from) (to - from)) → true ≡ eqb (getD w (4 * n + x) 0) 1 → In x (coreAmong w n from to)
+unfolding coreAmong
+among-in w n from to x i q = keep-in (λ i. eqb (getD w (4 * n + i) 0) 1) x (part w (3 * n + from) (to - from)) i (true-T (sym q))
 
 -- ---- the least number found
 module _ (enough : ℕ) (f : ℕ → ℕ) where
@@ -84,3 +90,10 @@ module _ (enough : ℕ) (f : ℕ → ℕ) where
           ],
         )
   ]
+
+-- ---- what is farther than a number out of reach is out of reach too
+pub out-farther : (t s : ℕ) {a b : ℕ} → a ≤ b → outOfReach t s a ≡ true → outOfReach t s b ≡ true
+unfolding outOfReach
+out-farther t s {a} {b} l o =
+    let r = t * (2 ^ s + 1) * (t * (2 ^ s + 1)) + 4 ^ s in
+    le-leb r (b * 4 ^ s) (omega (arith, leb-true r (a * 4 ^ s) o, mul-le-mul-right (4 ^ s) l))

@@ -1,13 +1,13 @@
 -- What whole numbers tell of the count of frame q in the tree of the cell with number c: Disjoint that it is 0, FullyCovered that it is not;
--- Intersecting says nothing. Definitions only.
+-- Intersecting says nothing. And of those of the core frames of one cell in the tree of another. Definitions only.
 use mathlib.Core.Path.{_≡_}
 use mathlib.Core.Bool.{Bool, cond, _&&_}
-use mathlib.Core.List.{List}
+use mathlib.Core.List.{List, [], _∷_}
 use Prim.Native.Nat.{ℕ, _+_, _-_, _*_}
 use lib.Dec.{ltb, leb}
 use lib.IntN.{ℤ}
 use lib.ListN.{getD, take}
-use Rattle.lists.specs.Lists.{nonzero}
+use Rattle.lists.specs.Lists.{In, nonzero}
 use Rattle.hyperparams.specs.declared.ValidParams.{ValidParams}
 use Rattle.hyperparams.specs.Params.{float}
 use Rattle.counting_tree.specs.declared.IntersectionType.{IntersectionType}
@@ -52,3 +52,25 @@ module _ (v : ValidParams) (n : ℕ) (ps : List ℤ) (q c : ℕ) where
   -- what is told is so
   abbrev pub Tells : IntersectionType → Type 0
   Tells told = onBox told (nonzero (count (geometryAt v n ps) q (cellAt (geometryAt v n ps) c))) ≡ nonzero (count (geometryAt v n ps) q (cellAt (geometryAt v n ps) c))
+
+-- two answers as one: FullyCovered if one of them is, Disjoint if both are, else Intersecting
+abbrev pub joined : IntersectionType → IntersectionType → IntersectionType
+joined Disjoint b = b
+joined FullyCovered b = FullyCovered
+joined Intersecting Disjoint = Intersecting
+joined Intersecting FullyCovered = FullyCovered
+joined Intersecting Intersecting = Intersecting
+
+-- what f tells of each element, as one answer
+abbrev pub joinedOver : (ℕ → IntersectionType) → List ℕ → IntersectionType
+joinedOver f [] = Disjoint
+joinedOver f (x ∷ xs) = joined (f x) (joinedOver f xs)
+
+module _ (v : ValidParams) (n : ℕ) (ps : List ℤ) (c d : ℕ) where
+  -- what the core frames of the cell with number d tell of those of the cell with number c
+  unfoldable pub settledByCells : IntersectionType
+  settledByCells = joinedOver (λ q. settledByFrames v n ps q d) (treeFrames (geometryAt v n ps) c)
+
+  -- no core frame of the one cell has a count in the tree of the other
+  abbrev pub Apart : Type 0
+  Apart = ((q : ℕ) → In q (treeFrames (geometryAt v n ps) c) → Tells v n ps q d Disjoint) × ((q : ℕ) → In q (treeFrames (geometryAt v n ps) d) → Tells v n ps q c Disjoint)

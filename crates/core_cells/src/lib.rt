@@ -1,6 +1,7 @@
 // The trees of the core cells (CoreCellInfo of the source), in words of one lent slice: built for the cells with more than a few core frames,
 // and asked for the count of a frame, or only whether it is 0, which whole numbers mostly tell without the tree.
 // `v` has the settings, `n` is the number of frames, `k` the number of cells.
+pub mod pairs;
 pub mod spans;
 
 use cells_grid::PLACES;
@@ -26,7 +27,7 @@ ghost use Rattle.counting_tree.specs.Domain.{Counts};
 ghost use Rattle.counting_tree.specs.Paths as Paths;
 ghost use Rattle.counting_tree.specs.Ready.{geometryAt, Ready};
 ghost use Rattle.counting_tree.specs.declared.IntersectionType.the-variants.{Intersecting};
-ghost use Rattle.cells_grid.specs.Cells.{node, count};
+ghost use Rattle.cells_grid.specs.Cells.{members, node, count};
 ghost use Rattle.cells_grid.specs.Arrangement.{cellAt, Cored};
 ghost use Rattle.cells_grid.specs.Places.{endIn};
 ghost use Rattle.tree_structure.specs.Encode.{toldOf};
@@ -228,6 +229,16 @@ fn read_frames(points: &[i16], v: ValidParams, n: usize, work: &[Word], from: us
         counting_tree::points::read_frame(points, v, n, lists::word(work, PLACES * n + p));
         p += 1;
     }
+}
+
+// Reads the frames of cell c, for the same.
+fn read_cell(points: &[i16], v: ValidParams, n: usize, k: usize, work: &[Word], c: usize)
+    requires { ⌜ Ready (now points) v n × Grown (geometryAt v n (now points)) k (now work) × (c < k) ⌝ }
+    ensures { λ _. ⌜ (let g = geometryAt v n (now (points .entry)) in (x : ℕ) → In x (members g (cellAt g c)) → Counts (frame v (framesIn n (v .channels) (now (points .entry))) x)) ⌝ }
+{
+    let from = lists::word(work, STARTS * n + c);
+    let end = cells_grid::cell_end(work, n, k, c);
+    read_frames(points, v, n, work, from, end);
 }
 
 // "The far reach is N × (4 to the power s) < (t × ((2 to the power s) + 1)) squared + (4 to the power s).": whether N is not below it.

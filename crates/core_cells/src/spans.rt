@@ -1,7 +1,7 @@
 // The spans of cells. Two cells of many frames whose spans lie out of reach of each other do not touch: this is told with no frame of the one compared to one of the other.
 // Counts are taken raised by 2^15: so they are whole numbers from 0 on.
 use super::out_of_reach;
-use super::read_frames;
+use super::read_cell;
 use cells_grid::PLACES;
 use cells_grid::STARTS;
 use hyperparams::ValidParams;
@@ -13,7 +13,6 @@ ghost use lib.Dec.{ltb};
 ghost use lib.ListN.{length, getD};
 ghost use Rattle.lists.specs.Lists.{In};
 ghost use Rattle.lists.specs.Words.{part};
-ghost use Rattle.counting_tree.specs.declared.IntersectionType.the-variants.{Disjoint};
 ghost use Rattle.counting_tree.specs.Frames.{framesIn};
 ghost use Rattle.counting_tree.specs.Geometry.{frame};
 ghost use Rattle.counting_tree.specs.Domain.{Counts};
@@ -21,9 +20,9 @@ ghost use Rattle.counting_tree.specs.Ready.{geometryAt, Ready};
 ghost use Rattle.cells_grid.specs.Cells.{members};
 ghost use Rattle.cells_grid.specs.Arrangement.{cellAt};
 ghost use Rattle.cells_grid.specs.Places.{endIn};
-ghost use Rattle.core_cells.specs.Forest.{treeFrames, Grown};
+ghost use Rattle.core_cells.specs.Forest.{Grown};
 ghost use Rattle.core_cells.specs.Nearest.{CanLook};
-ghost use Rattle.core_cells.specs.Settling.{Tells};
+ghost use Rattle.core_cells.specs.Settling.{Apart};
 ghost use Rattle.core_cells.specs.Spans as Definitions;
 ghost use Rattle.core_cells.specs.Spans.{many, raisedAt, spanFrom, LowEnds, squareGap, cellSpan, apartBySpans};
 
@@ -125,9 +124,9 @@ fn span_of(points: &[i16], v: ValidParams, n: usize, k: usize, work: &[Word], c:
     ensures bound { λ r. ⌜ LowEnds r ⌝ }
     ensures counts { λ _. ⌜ (let g = geometryAt v n (now (points .entry)) in (x : ℕ) → In x (members g (cellAt g c)) → Counts (frame v (framesIn n (v .channels) (now (points .entry))) x)) ⌝ }
 {
+    read_cell(points, v, n, k, work, c);
     let from = lists::word(work, STARTS * n + c);
     let end = cells_grid::cell_end(work, n, k, c);
-    read_frames(points, v, n, work, from, end);
     span_among(points, v, n, work, lists::word(work, n + c), from, end)
 }
 
@@ -173,7 +172,7 @@ fn has_many(work: &[Word], n: usize, k: usize, c: usize) -> bool
     cells_grid::cell_end(work, n, k, c) - lists::word(work, STARTS * n + c) > MANY
 }
 
-// Whether c and d are cells of many frames whose spans lie out of reach: then no core frame of c has a count in the tree of d.
+// Whether c and d are cells of many frames whose spans lie out of reach: then no core frame of the one has a count in the tree of the other.
 pub fn apart(
     points: &[i16],
     v: ValidParams,
@@ -185,7 +184,7 @@ pub fn apart(
 ) -> bool
     requires { ⌜ Ready (now points) v n × Grown (geometryAt v n (now points)) k (now work) × (c < k) × (d < k) ⌝ }
     ensures value { λ r. ⌜ r ≡ apartBySpans v n (now (points .entry)) c d ⌝ }
-    ensures tells { λ r. ⌜ (r ≡ true → (q : ℕ) → In q (treeFrames (geometryAt v n (now (points .entry))) c) → Tells v n (now (points .entry)) q d Disjoint) ⌝ }
+    ensures tells { λ r. ⌜ (r ≡ true → Apart v n (now (points .entry)) c d) ⌝ }
 {
     if !has_many(work, n, k, c) {
         return false;

@@ -10,16 +10,16 @@ use Rattle.cells_grid.proofs.listing.list_row.Statement.{statement}
 use Rattle.cells_grid.proofs.listing.list_row.Tie as tie
 
 abbrev Inv-loop : tie.InvT-loop
-Inv-loop points v n k work₀ i first r h along m marks mark size from₀ to₀ rest₀ more₀ work from to rest more = InRow v n points i r marks mark m work₀ work from to rest more
+Inv-loop points v n k work₀ i first r h along after m marks mark size from₀ to₀ rest₀ more₀ work from to rest more = InRow v n points i after r marks mark m work₀ work from to rest more
 
 abbrev μ-loop : tie.MeasureT-loop
-μ-loop points v n k work₀ i first r h along m marks mark size from₀ to₀ rest₀ more₀ work from to rest more = to + rest
+μ-loop points v n k work₀ i first r h along after m marks mark size from₀ to₀ rest₀ more₀ work from to rest more = to + rest
 
 the-rows : (c : tie.Start Inv-loop μ-loop) → Rows (reachOf (c .args .v)) (c .args .v) (c .args .n) (c .args .points .now) (c .args .i) (c .args .first)
 the-rows c = record { ready = c .pre .0 .0; below = c .pre .0 .1; begin = c .pre .0 .2; small = c .pre .0 .3 }
 
 -- @START = c .before .before .before .before
-the-row : (c : tie.After-stretch-at Inv-loop μ-loop) → Row (c .before .before .before .before .args .v) (c .before .before .before .before .args .n) (c .before .before .before .before .args .points .now) (c .before .before .before .before .args .k) (c .before .before .before .before .args .i) (c .before .before .before .before .args .r) (c .before .before .before .before .args .along) (c .before .before .before .before .args .h) (c .before .before .before .before .args .marks) (c .before .before .before .before .args .mark) (c .before .before .before .before .args .m) (c .before .bucket .result) (c .before .before .before .before .args .first) (c .before .before .before .before .args .work .now) (c .stretch-at .result)
+the-row : (c : tie.After-stretch-at Inv-loop μ-loop) → Row (c .before .before .before .before .args .v) (c .before .before .before .before .args .n) (c .before .before .before .before .args .points .now) (c .before .before .before .before .args .k) (c .before .before .before .before .args .i) (c .before .before .before .before .args .after) (c .before .before .before .before .args .r) (c .before .before .before .before .args .along) (c .before .before .before .before .args .h) (c .before .before .before .before .args .marks) (c .before .before .before .before .args .mark) (c .before .before .before .before .args .m) (c .before .bucket .result) (c .before .before .before .before .args .first) (c .before .before .before .before .args .work .now) (c .stretch-at .result)
 the-row c =
     let p = c .before .before .before .before .pre .1 in
     record {

@@ -7,12 +7,12 @@ use Rattle.cells_grid.proofs.listing.list_stretch.Statement.{statement}
 use Rattle.cells_grid.proofs.listing.list_stretch.Tie as tie
 
 abbrev Inv-loop : tie.InvT-loop
-Inv-loop points v n work₀ i first r «from» end m marks mark to₀ p₀ work to p = Walking v n points i r marks mark m «from» end work₀ work to p
+Inv-loop points v n work₀ i first r after «from» end m marks mark to₀ p₀ work to p = Walking v n points i after r marks mark m «from» end work₀ work to p
 
 abbrev μ-loop : tie.MeasureT-loop
-μ-loop points v n work₀ i first r «from» end m marks mark to₀ p₀ work to p = end - p
+μ-loop points v n work₀ i first r after «from» end m marks mark to₀ p₀ work to p = end - p
 
-the-search : (c : tie.Start Inv-loop μ-loop) → Search (c .args .v) (c .args .n) (c .args .points .now) (c .args .i) (c .args .r) (c .args .marks) (c .args .mark) (c .args .m) (c .args .«from») (c .args .end) (c .args .work .now)
+the-search : (c : tie.Start Inv-loop μ-loop) → Search (c .args .v) (c .args .n) (c .args .points .now) (c .args .i) (c .args .after) (c .args .r) (c .args .marks) (c .args .mark) (c .args .m) (c .args .«from») (c .args .end) (c .args .work .now)
 the-search c =
     let p = c .pre in
     record { ready = p .0 .0; arranged = p .1 .0 .0; sorted = p .1 .0 .1; fit = p .1 .0 .2; apart = p .1 .0 .3; low = p .1 .1 .0; high = p .1 .1 .1; room = p .1 .1 .2 }

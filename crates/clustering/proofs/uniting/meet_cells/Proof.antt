@@ -59,8 +59,8 @@ returns-2 c =
     one-set _ (can-meet s) (s .1 .1) (c .before .before .before .before .before .before .before .before .word .ensures) (c .before .before .before .before .before .before .word2 .ensures) (c .before .before .before .before .before .if1 .left)
     (c .before .before .before .same-set .ensures .1) (c .before .before .before .same-set .ensures .0) (c .if2 .taken)
 
-touches-cell-requires : tie.Need-touches-cell-requires
-touches-cell-requires c κs =
+is-linked-requires : tie.Need-is-linked-requires
+is-linked-requires c κs =
     let s = c .before .before .before .before .before .before .before .before .before .before .before .before .pre in
     (s .0 .0, grown-still (can-meet s) (c .before .before .before .before .same-set .ensures .1) (frames (s .0 .0) (s .0 .1)) (s .0 .1), s .0 .2, s .0 .3)
 
@@ -90,7 +90,7 @@ returns-3 : tie.Need-returns-3
 returns-3 c =
     let s = c .before .before .before .before .before .before .before .before .before .before .before .before .before .before .before .before .before .before .pre in
     link _ (can-meet s) (s .1 .1) (c .before .before .before .before .before .before .before .before .before .before .before .before .before .before .before .word .ensures) (c .before .before .before .before .before .before .before .before .before .before .before .before .before .word2 .ensures) (c .before .before .before .before .before .before .before .before .before .before .before .before .if1 .left)
-    (c .before .before .before .before .before .before .before .before .before .before .same-set .ensures .1) (c .before .before .before .before .before .before .before .before .before .before .same-set .ensures .0) (c .before .before .before .before .before .before .before .if2 .left) (c .before .before .before .before .before .touches-cell .ensures) (c .before .before .before .before .if3 .taken) (c .before .before .union .ensures)
+    (c .before .before .before .before .before .before .before .before .before .before .same-set .ensures .1) (c .before .before .before .before .before .before .before .before .before .before .same-set .ensures .0) (c .before .before .before .before .before .before .before .if2 .left) (c .before .before .before .before .before .is-linked .ensures) (c .before .before .before .before .if3 .taken) (c .before .before .union .ensures)
 
 same-length-4 : tie.Need-same-length-4
 same-length-4 c = search needs
@@ -99,7 +99,7 @@ returns-4 : tie.Need-returns-4
 returns-4 c =
     let s = c .before .before .before .before .before .before .before .before .before .before .before .before .before .before .pre in
     no-link _ (can-meet s) (s .1 .1) (c .before .before .before .before .before .before .before .before .before .before .before .word .ensures) (c .before .before .before .before .before .before .before .before .before .word2 .ensures) (c .before .before .before .before .before .before .before .before .if1 .left)
-    (c .before .before .before .before .before .before .same-set .ensures .1) (c .before .before .before .before .before .before .same-set .ensures .0) (c .before .before .before .if2 .left) (c .before .touches-cell .ensures) (c .if3 .left)
+    (c .before .before .before .before .before .before .same-set .ensures .1) (c .before .before .before .before .before .before .same-set .ensures .0) (c .before .before .before .if2 .left) (c .before .is-linked .ensures) (c .if3 .left)
 
 pub meet-cells-spec : {M : Type 1} → statement M
 meet-cells-spec =
@@ -120,7 +120,7 @@ meet-cells-spec =
     same-set-requires
     same-length-2
     returns-2
-    touches-cell-requires
+    is-linked-requires
     mul-union
     sub-union
     part-union-start

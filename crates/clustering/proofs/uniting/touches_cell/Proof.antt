@@ -18,7 +18,7 @@ apart-requires : tie.Need-apart-requires Inv-loop μ-loop
 apart-requires c κs = search needs
 
 returns : tie.Need-returns Inv-loop μ-loop
-returns c = touch-none (geometryAt (c .before .before .before .args .v) (c .before .before .before .args .n) (c .before .before .before .args .points .now)) (c .before .before .before .args .c) (c .before .before .before .args .d) (c .before .apart .ensures .1 (c .if1 .taken))
+returns c = touch-none (geometryAt (c .before .before .before .args .v) (c .before .before .before .args .n) (c .before .before .before .args .points .now)) (c .before .before .before .args .c) (c .before .before .before .args .d) (c .before .apart .ensures .1 (c .if1 .taken) .0)
 
 frames-first-requires : tie.Need-frames-first-requires Inv-loop μ-loop
 frames-first-requires c κs = can-order (c .before .before .before .pre .0) (c .before .before .before .pre .1) (c .before .before .before .pre .3)

@@ -48,8 +48,8 @@ is-core-cell-requires c κs =
     let f = found (s .0 .0) (s .0 .1) (c .before .before .before .before .before .before .loop .inv) (c .before .before .before .before .before .loop-test .taken) (c .before .before .before .find .ensures .1 .1) (c .before .before .before .find .ensures .0) in
     tree-room (s .0 .0) (f .leading .grown) _ (f .cell)
 
-list-unmarked-requires : tie.Need-list-unmarked-requires Inv-loop μ-loop
-list-unmarked-requires c κs =
+list-later-requires : tie.Need-list-later-requires Inv-loop μ-loop
+list-later-requires c κs =
     let s = c .before .before .before .before .before .before .before .before .before .before .before .pre in
     let f = found (s .0 .0) (s .0 .1) (c .before .before .before .before .before .before .before .before .before .loop .inv) (c .before .before .before .before .before .before .before .before .loop-test .taken) (c .before .before .before .before .before .before .find .ensures .1 .1) (c .before .before .before .before .before .before .find .ensures .0) in
     can-list (s .0 .0) (s .0 .1) f (c .before .before .is-core-cell .ensures) (c .before .if1 .taken)
@@ -58,7 +58,7 @@ unite-list-requires : tie.Need-unite-list-requires Inv-loop μ-loop
 unite-list-requires c κs =
     let s = c .before .before .before .before .before .before .before .before .before .before .before .before .before .before .before .pre in
     let f = found (s .0 .0) (s .0 .1) (c .before .before .before .before .before .before .before .before .before .before .before .before .before .loop .inv) (c .before .before .before .before .before .before .before .before .before .before .before .before .loop-test .taken) (c .before .before .before .before .before .before .before .before .before .before .find .ensures .1 .1) (c .before .before .before .before .before .before .before .before .before .before .find .ensures .0) in
-    can-unite-list (s .0 .0) (s .0 .1) f (c .before .before .before .before .before .before .is-core-cell .ensures) (c .before .before .before .before .before .if1 .taken) (c .before .before .before .list-unmarked .ensures .0) (c .before .before .before .list-unmarked .ensures .1)
+    can-unite-list (s .0 .0) (s .0 .1) f (c .before .before .before .before .before .before .is-core-cell .ensures) (c .before .before .before .before .before .if1 .taken) (c .before .before .before .list-later .ensures .0) (c .before .before .before .list-later .ensures .1)
 
 mul-clear-words : tie.Need-mul-clear-words Inv-loop μ-loop
 mul-clear-words c = omega arith
@@ -67,7 +67,7 @@ clear-words-requires : tie.Need-clear-words-requires Inv-loop μ-loop
 clear-words-requires c κs =
     let s = c .before .before .before .before .before .before .before .before .before .before .before .before .before .before .before .before .before .before .before .pre in
     let f = found (s .0 .0) (s .0 .1) (c .before .before .before .before .before .before .before .before .before .before .before .before .before .before .before .before .before .loop .inv) (c .before .before .before .before .before .before .before .before .before .before .before .before .before .before .before .before .loop-test .taken) (c .before .before .before .before .before .before .before .before .before .before .before .before .before .before .find .ensures .1 .1) (c .before .before .before .before .before .before .before .before .before .before .before .before .before .before .find .ensures .0) in
-    can-clear (s .0 .0) (s .0 .1) f (c .before .before .before .before .before .before .before .before .before .before .is-core-cell .ensures) (c .before .before .before .before .before .before .before .before .before .if1 .taken) (c .before .before .before .before .before .before .before .list-unmarked .ensures .0) (c .before .before .before .before .before .before .before .list-unmarked .ensures .1) (c .before .before .before .unite-list .ensures)
+    can-clear (s .0 .0) (s .0 .1) f (c .before .before .before .before .before .before .before .before .before .before .is-core-cell .ensures) (c .before .before .before .before .before .before .before .before .before .if1 .taken) (c .before .before .before .before .before .before .before .list-later .ensures .0) (c .before .before .before .before .before .before .before .list-later .ensures .1) (c .before .before .before .unite-list .ensures)
 
 loop-less : tie.Need-loop-less Inv-loop μ-loop
 loop-less c = omega arith
@@ -76,7 +76,7 @@ loop-again : tie.Need-loop-again Inv-loop μ-loop
 loop-again c =
     let s = c .before .before .before .before .before .before .before .before .before .before .before .before .before .before .before .before .before .before .before .before .before .before .pre in
     let f = found (s .0 .0) (s .0 .1) (c .before .before .before .before .before .before .before .before .before .before .before .before .before .before .before .before .before .before .before .before .loop .inv) (c .before .before .before .before .before .before .before .before .before .before .before .before .before .before .before .before .before .before .before .loop-test .taken) (c .before .before .before .before .before .before .before .before .before .before .before .before .before .before .before .before .before .find .ensures .1 .1) (c .before .before .before .before .before .before .before .before .before .before .before .before .before .before .before .before .before .find .ensures .0) in
-    rows-on (s .0 .0) (s .0 .1) f (c .before .before .before .before .before .before .before .before .before .before .before .before .before .is-core-cell .ensures) (c .before .before .before .before .before .before .before .before .before .before .before .before .if1 .taken) (c .before .before .before .before .before .before .before .before .before .before .list-unmarked .ensures .0) (c .before .before .before .before .before .before .before .before .before .before .list-unmarked .ensures .1) (c .before .before .before .before .before .before .unite-list .ensures) (c .before .before .clear-words .ensures)
+    rows-on (s .0 .0) (s .0 .1) f (c .before .before .before .before .before .before .before .before .before .before .before .before .before .is-core-cell .ensures) (c .before .before .before .before .before .before .before .before .before .before .before .before .if1 .taken) (c .before .before .before .before .before .before .before .before .before .before .list-later .ensures .0) (c .before .before .before .before .before .before .before .before .before .before .list-later .ensures .1) (c .before .before .before .before .before .before .unite-list .ensures) (c .before .before .clear-words .ensures)
 
 loop-less-2 : tie.Need-loop-less-2 Inv-loop μ-loop
 loop-less-2 c = omega arith
@@ -109,7 +109,7 @@ unite-lists-spec =
     part-find-end
     find-requires
     is-core-cell-requires
-    list-unmarked-requires
+    list-later-requires
     unite-list-requires
     mul-clear-words
     clear-words-requires

@@ -1,7 +1,8 @@
 -- One of the cells has few frames, or their spans tell.
 use borrow.Author.Needs.{needs}
 use Rattle.lists.specs.ListLaws.{true-T}
-use Rattle.core_cells.proofs.Spanning.{cell-order, first-few, second-few, by-spans, spans-tell}
+use Rattle.core_cells.proofs.Placing.{cell-order}
+use Rattle.core_cells.proofs.Spanning.{first-few, second-few, by-spans, spans-tell}
 use Rattle.core_cells.proofs.spans.apart.Statement.{statement}
 use Rattle.core_cells.proofs.spans.apart.Tie as tie
 
