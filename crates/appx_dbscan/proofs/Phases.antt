@@ -183,8 +183,8 @@ module _ {ps : List ℤ} {v : ValidParams} {n : ℕ} (r : Ready ps v n) (w : Lis
     pub arranged₁ : Arranged g k₁ w₁
     arranged₁ = rw (p, e₁) after-populate
 
-    pub clear₁ : Clear w (10 * n) (14 * n) → Clear w₁ (14 * n) (10 * n)
-    clear₁ c = rw e₁ (clear-within (populated g w) (10 * n) (14 * n) (14 * n) (10 * n) (clear-after-populate c) (omega arith) (omega arith))
+    pub clear₁ : Clear w (10 * n) (14 * n) → Clear w₁ (10 * n) (14 * n)
+    clear₁ c = rw e₁ (clear-after-populate c)
 
     module _ {w₂ : List ℕ} (e₂ : w₂ ≡ over w₁ (4 * n) cores) where
       same₂ : w₂ ≡ over (populated g w) (4 * n) cores

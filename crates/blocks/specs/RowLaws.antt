@@ -136,7 +136,7 @@ module _ (reach : ℕ) (v : ValidParams) (n : ℕ) (ps : List ℤ) (room : n * v
   pub long : (i : ℕ) → i < n → length (F i) ≡ v .channels
   long i h = frame-length n (v .channels) ps i room h
 
-  rest-long : (i : ℕ) → i < n → length (drop 1 (F i)) ≡ v .channels - 1
+  pub rest-long : (i : ℕ) → i < n → length (drop 1 (frameAt reach v n ps i)) ≡ v .channels - 1
   rest-long i h = length-drop 1 (F i) ∙ ap (λ (z : ℕ). z - 1) (long i h)
 
   pub row-low : (i : ℕ) → i < n → (j : ℕ) → which reach (drop 1 (frameAt reach v n ps i)) (drop 1 (frameAt reach v n ps j)) < 2 ^ (v .channels - 1)
@@ -148,7 +148,7 @@ module _ (reach : ℕ) (v : ValidParams) (n : ℕ) (ps : List ℤ) (room : n * v
   apart-first (a ∷ f) [] l t = absurd t
   apart-first (a ∷ f) (b ∷ g) l t = t
 
-  pub near-within : (i j : ℕ) → i < n → j < n → squared (F i) (F j) ≤ reach * reach → Within reach (F i) (F j)
+  pub near-within : (i j : ℕ) → i < n → j < n → squared (frameAt reach v n ps i) (frameAt reach v n ps j) ≤ reach * reach → Within reach (frameAt reach v n ps i) (frameAt reach v n ps j)
   near-within i j h k q = within-of reach (F i) (F j) (long i h ∙ sym (long j k)) q
 
   module _ (size : ℕ) (at : ℕ → ℕ) (p : ℕ → Bool) (m : ℕ) (several : 1 < size) (inside : (x : ℕ) → x < m → at x < n) where
@@ -189,7 +189,7 @@ module _ (reach : ℕ) (v : ValidParams) (n : ℕ) (ps : List ℤ) (room : n * v
         has x b j l = omega (arith, eqb→eq (key x) b (in-keep (λ y. eqb (key y) b) x (numbers m) j .1))
 
         -- those found in a row are all in it
-        row-all : (r : ℕ) → List·Permᴰ (foundIn reach v n ps size at p m i f r) (keep (λ x. K r x && P x) (numbers m))
+        pub row-all : (r : ℕ) → List·Permᴰ (foundIn reach v n ps size at p m i f r) (keep (λ x. sameNats (rowOf reach v n ps (at x)) (rowAround reach v n ps i r) && (p x && f x)) (numbers m))
         unfolding foundIn pairAt
         row-all r =
             subst (λ (l : List ℕ). List·Permᴰ l (keep (λ x. K r x && P x) (numbers m)))
@@ -211,7 +211,7 @@ module _ (reach : ℕ) (v : ValidParams) (n : ℕ) (ps : List ℤ) (room : n * v
                 key-near r x l (and-left (p x) (f x) s) (near x l (and-left (p x) (f x) s) (and-right (p x) (f x) s)) (same-nats (rowOf reach v n ps (at x)) (rowAround reach v n ps i r) (and-left (K r x) (P x) t))
 
         -- a number within the reach lies in one row alone
-        in-one : (x r : ℕ) → x < m → T (P x) → r < R → K r x ≡ eqb (which reach (drop 1 (F i)) (drop 1 (F (at x)))) r
+        pub in-one : (x r : ℕ) → x < m → T (p x && f x) → r < 2 ^ (v .channels - 1) → sameNats (rowOf reach v n ps (at x)) (rowAround reach v n ps i r) ≡ eqb (which reach (drop 1 (frameAt reach v n ps i)) (drop 1 (frameAt reach v n ps (at x)))) r
         in-one x r l t k =
             let s = near-within i (at x) h (inside x l) (near x l (and-left (p x) (f x) t) (and-right (p x) (f x) t)) in
             which-is reach (drop 1 (F i)) (drop 1 (F (at x))) r (apart-first (F i) (F (at x)) (omega (arith, long i h)) s .1) (subst (λ (d : ℕ). r < 2 ^ d) (sym (rest-long i h)) k)

@@ -1,5 +1,5 @@
 -- When a frame is core: the size of its cell, else the frames near it; and what is written of it.
-use mathlib.Core.Path.{_≡_, sym, ap, ap₂, subst, _∙_}
+use mathlib.Core.Path.{_≡_, refl, sym, ap, ap₂, subst, _∙_}
 use mathlib.Core.Logic.{inl, inr}
 use mathlib.Core.Bool.{Bool, true, false, not, cond}
 use mathlib.Core.List.{List}
@@ -9,15 +9,16 @@ use native.Mathlib.Decide.{decLt}
 use native.Mathlib.Omega.{arith}
 use lib.IntN.{ℤ}
 use lib.Dec.{T, T-not, leb}
-use lib.ListN.{length, getD, replicate}
+use lib.ListN.{length, getD, replicate, length-replicate}
 use borrow.Author.Tests.{le-leb, lt-leb}
 use Rattle.lists.specs.Lists.{numbers, any, howMany}
-use Rattle.lists.specs.ListLaws.{true-T, T-true, T-or-not, not-turn, any-in, any-none, map-same, numbers-in, in-numbers, length-numbers}
+use Rattle.lists.specs.ListLaws.{true-T, T-true, T-or-not, not-turn, any-in, any-none, map-same, numbers-in, in-numbers, at-numbers, length-numbers}
 use Rattle.lists.specs.Words.{over, column, Clear, Apart}
-use Rattle.lists.specs.WordLaws.{over-length}
-use Rattle.lists.specs.PartLaws.{column-replicate, clear-after, clear-within}
+use Rattle.lists.specs.WordLaws.{over-length, over-apart, over-again}
+use Rattle.lists.specs.PartLaws.{column-replicate, get-laid, get-above, clear-over, clear-before, clear-after, clear-within}
 use Rattle.lists.specs.LoopLaws.{Fill, fill-start, fill-length, fill-end}
 use Rattle.hyperparams.specs.declared.ValidParams.{ValidParams}
+use Rattle.counting_tree.specs.Domain.{Counts}
 use Rattle.counting_tree.specs.Geometry.{Geometry}
 use Rattle.counting_tree.specs.Ready.{geometryAt, Ready, at-frames, at-least}
 use Rattle.cells_grid.specs.Cells.{members, cells, cellNumber, dense, neighbour, core}
@@ -27,11 +28,13 @@ use Rattle.cells_grid.specs.Places.{endIn}
 use Rattle.cells_grid.specs.Ready.{ready-lawful}
 use Rattle.cells_grid.specs.ArrangementLaws.{number-below, members-number, words-count, words-room, number-word, cell-size, arranged-over}
 use Rattle.lists.specs.Sorting.{startOf, placesOf, keyIn, Sortable, Sorted}
-use Rattle.lists.specs.SortLaws.{sorted-over}
 use Rattle.blocks.specs.Blocks.{width, bucketOf, frameAt, keyFor, sortedBy}
 use Rattle.blocks.specs.RowLaws.{key-below}
 use Rattle.blocks.specs.SortedLaws.{places-long, sorted-length, sorted-after, sorted-under, sorted-cleared, can-sort, keys-cleared}
 use Rattle.cells_grid.specs.Crowding.{itself, every, frameKey}
+use Rattle.cells_grid.specs.Pairs.{Laid, others}
+use Rattle.cells_grid.specs.RaisedLaws.{laid-over}
+use Rattle.cells_grid.specs.PairLaws.{others-more}
 
 -- the count of the cells is that of the definition
 pub all-cells : {g : Geometry} {k : ℕ} {w : List ℕ} → Arranged g k w → Arranged g (length (cells g)) w
@@ -74,15 +77,32 @@ module _ {ps : List ℤ} {v : ValidParams} {n k i : ℕ} {w : List ℕ} (p : Rea
       size : end - start ≡ length (members g i)
       size = omega (arith, cell-size g L (p .1) n e own own-below s f, ap length (ap (λ (d : ℕ). members g (cellAt g d)) number ∙ members-number g L i inside))
 
-      pub core-dense : v .«min_points» ≤ end - start → 1 ≡ coreBit g i
-      unfolding coreBit core dense
-      core-dense l = rw (le-leb (g .least) (length (members g i)) (omega (arith, size, crowd-least)))
+      pub own-dense : leb (v .«min_points») (end - start) ≡ dense (geometryAt v n ps) i
+      unfolding dense
+      own-dense = ap₂ leb (sym crowd-least) size
 
-      pub core-sparse : end - start < v .«min_points» → (b : Bool) {r : Bool} → r ≡ leb (g .least) (howMany (neighbour g i) (numbers n)) → r ≡ b → cond b 1 0 ≡ coreBit g i
-      unfolding coreBit core dense
-      core-sparse l b q t = sym (ap₂ (λ (d x : Bool). cond (cond d true x) 1 0)
-          (lt-leb (g .least) (length (members g i)) (omega (arith, size, crowd-least)))
-          (ap (λ (m : ℕ). leb (g .least) (howMany (neighbour g i) (numbers m))) e ∙ sym q ∙ t))
+  -- d says whether its cell is dense
+  module _ {d : Bool} (q : d ≡ dense (geometryAt v n ps) i) where
+    pub core-dense : d ≡ true → 1 ≡ coreBit (geometryAt v n ps) i
+    unfolding coreBit core
+    core-dense t = rw (sym q ∙ t)
+
+    module _ (t : d ≡ false) where
+      pub core-sparse : (b : Bool) {r : Bool} → r ≡ leb (geometryAt v n ps .least) (howMany (neighbour (geometryAt v n ps) i) (numbers n)) → r ≡ b → cond b 1 0 ≡ coreBit (geometryAt v n ps) i
+      unfolding coreBit core
+      core-sparse b s u = sym (ap₂ (λ (d x : Bool). cond (cond d true x) 1 0) (sym q ∙ t)
+          (ap (λ (m : ℕ). leb (g .least) (howMany (neighbour g i) (numbers m))) e ∙ sym s ∙ u))
+
+      -- x is how many neighbours it has besides itself
+      module _ (C : Counts ps) {x : ℕ} (c : x ≡ others v n ps i) where
+        many : howMany (neighbour g i) (numbers n) ≡ 1 + x
+        many = others-more (p .0) C i (p .2) ∙ ap (λ (z : ℕ). 1 + z) (sym c)
+
+        pub counted-yes : v .«min_points» ≤ 1 + x → 1 ≡ coreBit (geometryAt v n ps) i
+        counted-yes m = core-sparse true (sym (le-leb (g .least) (howMany (neighbour g i) (numbers n)) (omega (arith, many, crowd-least)))) refl
+
+        pub counted-no : 1 + x < v .«min_points» → 0 ≡ coreBit (geometryAt v n ps) i
+        counted-no m = core-sparse false (sym (lt-leb (g .least) (howMany (neighbour g i) (numbers n)) (omega (arith, many, crowd-least)))) refl
 
 -- ---- where every cell is dense
 -- the cells before c are, and c is
@@ -152,56 +172,115 @@ module _ (v : ValidParams) (n : ℕ) (ps : List ℤ) where
 behind : (n : ℕ) → Apart (14 * n) (2 * n) (16 * n) (8 * n)
 behind n = inl (omega arith)
 
--- ---- core frames are written between the arrangement and the sorted frames
+-- ---- which frames are core is written between the arrangement and the sorted frames
+module _ {ps : List ℤ} {v : ValidParams} {n : ℕ} {w₀ : List ℕ} (L : Laid v n ps w₀) where
+  abbrev bits : ℕ → List ℕ
+  bits i = column (coreBit (geometryAt v n ps)) i
+
+  bits-long : (i : ℕ) → length (bits i) ≡ i
+  bits-long i = length-numbers (coreBit (geometryAt v n ps)) i
+
+  pub bits-start : Fill (coreBit (geometryAt v n ps)) w₀ (4 * n) n w₀ 0
+  bits-start = fill-start (omega (arith, L .fit))
+
+  module _ {w : List ℕ} {i : ℕ} (F : Fill (coreBit (geometryAt v n ps)) w₀ (4 * n) n w i) where
+    pub bits-laid : Laid v n ps w
+    bits-laid = subst (Laid v n ps) (sym (F .work)) (laid-over L (4 * n) (bits i) (omega arith) (omega (arith, bits-long i, F .high)))
+
+    pub bits-arranged : {k : ℕ} → k ≡ length (cells (geometryAt v n ps)) → Arranged (geometryAt v n ps) k w
+    bits-arranged e = subst (λ (m : ℕ). Arranged (geometryAt v n ps) m w) (sym e) (bits-laid .arranged)
+
+-- where the pairs are counted in the words from 10n on
+module _ {ps : List ℤ} {v : ValidParams} {n : ℕ} {w₀ : List ℕ} (L : Laid v n ps w₀) (z : Clear w₀ (10 * n) n) {h : List ℕ} (e : h ≡ over w₀ (10 * n) (column (others v n ps) n)) where
+  abbrev O : List ℕ
+  O = column (others v n ps) n
+
+  O-long : length O ≡ n
+  O-long = length-numbers (others v n ps) n
+
+  same : length (over w₀ (10 * n) O) ≡ length w₀
+  same = over-length w₀ (10 * n) O (omega (arith, O-long, L .fit))
+
+  pub pairs-laid : Laid v n ps h
+  pairs-laid = subst (Laid v n ps) (sym e) (laid-over L (10 * n) O (omega arith) (omega (arith, O-long)))
+
+  module _ {w : List ℕ} {i : ℕ} (F : Fill (coreBit (geometryAt v n ps)) h (4 * n) n w i) where
+    pub pairs-length : length w ≡ length w₀
+    pairs-length = fill-length F ∙ ap length e ∙ same
+
+    pub pairs-word : i < n → getD w (10 * n + i) 0 ≡ others v n ps i
+    pairs-word l =
+        ap (λ (x : List ℕ). getD x (10 * n + i) 0) (F .work)
+        ∙ get-above h (4 * n) (10 * n + i) (column (coreBit (geometryAt v n ps)) i) (omega (arith, length-numbers (coreBit (geometryAt v n ps)) i)) (omega (arith, F .fit))
+        ∙ ap (λ (x : List ℕ). getD x (10 * n + i) 0) e
+        ∙ get-laid w₀ (10 * n) i O (omega (arith, O-long)) (omega (arith, L .fit))
+        ∙ at-numbers (others v n ps) 0 n i l
+
+    pub pairs-end : n ≤ i → over w (10 * n) (replicate n 0) ≡ over w₀ (4 * n) (column (coreBit (geometryAt v n ps)) n)
+    pairs-end l =
+        let D : List ℕ = column (coreBit (geometryAt v n ps)) n in
+        let Z : List ℕ = replicate n 0 in
+        let d : length D ≡ n = length-numbers (coreBit (geometryAt v n ps)) n in
+        let y : length Z ≡ n = length-replicate n 0 in
+        ap (λ (x : List ℕ). over x (10 * n) Z) (fill-end F l ∙ ap (λ (x : List ℕ). over x (4 * n) D) e)
+        ∙ over-apart (over w₀ (10 * n) O) (4 * n) (10 * n) D Z (omega (arith, d)) (omega (arith, y, same, L .fit))
+        ∙ ap (λ (x : List ℕ). over x (4 * n) D) (over-again w₀ (10 * n) O Z (omega (arith, L .fit)) (y ∙ sym O-long) ∙ clear-over w₀ (10 * n) n (omega (arith, L .fit)) z)
+
+-- ---- the frames are sorted, which are core is written, and the sorted frames are cleared
 module _ {ps : List ℤ} {v : ValidParams} {n k : ℕ} (w₀ : List ℕ)
-    (p : Ready ps v n × Arranged (geometryAt v n ps) k w₀ × (24 * n ≤ length w₀) × Clear w₀ (14 * n) (10 * n)) where
+    (p : Ready ps v n × Arranged (geometryAt v n ps) k w₀ × (24 * n ≤ length w₀) × Clear w₀ (10 * n) (14 * n)) where
+  later-clear : Clear w₀ (14 * n) (10 * n)
+  later-clear = clear-within w₀ (10 * n) (14 * n) (14 * n) (10 * n) (p .3) (omega arith) (omega arith)
+
   pub label-sort : Ready ps v n × (24 * n ≤ length w₀) × Clear w₀ (14 * n) (10 * n)
-  label-sort = (p .0, p .2, p .3)
+  label-sort = (p .0, p .2, later-clear)
 
-  H : length (sortedBy (frameKey v n ps) n (8 * n) (16 * n) n w₀) ≡ length w₀
-  H = sorted-length (frameKey v n ps) n (8 * n) (16 * n) n (le-refl n) (behind n) (key-low v n ps) w₀ (omega (arith, p .2)) (omega (arith, p .2))
+  module _ {h : List ℕ} (e : h ≡ sortedBy (frameKey v n ps) n (8 * n) (16 * n) n w₀) where
+    abbrev P : List ℕ
+    P = placesOf (frameKey v n ps) n (8 * n)
 
-  pub label-start : {h : List ℕ} → h ≡ sortedBy (frameKey v n ps) n (8 * n) (16 * n) n w₀ → Fill (coreBit (geometryAt v n ps)) h (4 * n) n h 0
-  label-start e = fill-start (omega (arith, ap length e, H, p .2))
+    abbrev E : List ℕ
+    E = column (λ b. startOf (frameKey v n ps) n (b + 1)) (8 * n)
 
-  module _ {h : List ℕ} (e : h ≡ sortedBy (frameKey v n ps) n (8 * n) (16 * n) n w₀) {w : List ℕ} {i : ℕ} (G : Fill (coreBit (geometryAt v n ps)) h (4 * n) n w i) where
-    F : Fill (coreBit (geometryAt v n ps)) (sortedBy (frameKey v n ps) n (8 * n) (16 * n) n w₀) (4 * n) n w i
-    F = subst (λ (z : List ℕ). Fill (coreBit (geometryAt v n ps)) z (4 * n) n w i) e G
+    placed : length (over w₀ (14 * n) P) ≡ length w₀
+    placed = over-length w₀ (14 * n) P (omega (arith, p .2, places-long (frameKey v n ps) n (8 * n) (16 * n) n (le-refl n) (behind n) (key-low v n ps)))
 
-    abbrev C : List ℕ
-    C = column (coreBit (geometryAt v n ps)) i
+    label-length : length h ≡ length w₀
+    label-length = ap length e ∙ sorted-length (frameKey v n ps) n (8 * n) (16 * n) n (le-refl n) (behind n) (key-low v n ps) w₀ (omega (arith, p .2)) (omega (arith, p .2))
 
-    pub label-length : length w ≡ length w₀
-    label-length = fill-length F ∙ H
-
-    pub label-arranged : Arranged (geometryAt v n ps) k w
+    label-arranged : Arranged (geometryAt v n ps) k h
     unfolding sortedBy
     label-arranged =
         let g = geometryAt v n ps in
         let f = at-frames v n ps in
-        let P : List ℕ = placesOf (frameKey v n ps) n (8 * n) in
-        let u : List ℕ = over w₀ (14 * n) P in
-        let lu : length u ≡ length w₀ = over-length w₀ (14 * n) P (omega (arith, p .2, places-long (frameKey v n ps) n (8 * n) (16 * n) n (le-refl n) (behind n) (key-low v n ps))) in
-        subst (Arranged g k) (sym (F .work))
-        (arranged-over g (4 * n) C (omega arith) (omega (arith, p .2, H))
-        (arranged-over g (16 * n) (column (λ b. startOf (frameKey v n ps) n (b + 1)) (8 * n)) (omega arith) (omega (arith, p .2))
-        (arranged-over g (14 * n) P (omega arith) (omega (arith, p .2)) (p .1))))
+        subst (Arranged g k) (sym e) (arranged-over g (16 * n) E (omega arith) (omega (arith, p .2, placed)) (arranged-over g (14 * n) P (omega arith) (omega (arith, p .2)) (p .1)))
 
-    pub label-sorted : Sorted (frameKey v n ps) n (8 * n) (16 * n) (14 * n) w
-    label-sorted =
-        let l : length C ≤ n = omega (arith, length-numbers (coreBit (geometryAt v n ps)) i, F .high) in
-        subst (Sorted (frameKey v n ps) n (8 * n) (16 * n) (14 * n)) (sym (F .work))
-        (sorted-over (sorted-after (frameKey v n ps) n (8 * n) (16 * n) n (le-refl n) (behind n) (key-low v n ps) w₀ (omega (arith, p .2)) (omega (arith, p .2))) (4 * n) C (inr (omega arith)) (inr (omega arith)) (omega (arith, p .2, H)))
+    pub label-laid : Laid v n ps h
+    label-laid = record {
+      ready = p .0;
+      arranged = all-cells label-arranged;
+      sorted = subst (Sorted (frameKey v n ps) n (8 * n) (16 * n) (14 * n)) (sym e) (sorted-after (frameKey v n ps) n (8 * n) (16 * n) n (le-refl n) (behind n) (key-low v n ps) w₀ (omega (arith, p .2)) (omega (arith, p .2)));
+      fit = omega (arith, label-length, p .2);
+    }
 
-    pub label-end : n ≤ i → over w (14 * n) (replicate (10 * n) 0) ≡ over w₀ (4 * n) (column (coreBit (geometryAt v n ps)) n)
-    label-end h =
+    pub label-clear : Clear h (10 * n) n
+    unfolding sortedBy
+    label-clear = subst (λ (x : List ℕ). Clear x (10 * n) n) (sym e)
+        (clear-before (over w₀ (14 * n) P) (10 * n) n (16 * n) E (omega (arith, p .2, placed)) (omega arith)
+        (clear-before w₀ (10 * n) n (14 * n) P (omega (arith, p .2)) (omega arith) (clear-within w₀ (10 * n) (14 * n) (10 * n) n (p .3) (omega arith) (omega arith))))
+
+    pub label-kept : {u : List ℕ} → u ≡ over h (4 * n) (column (coreBit (geometryAt v n ps)) n) → length u ≡ length w₀
+    label-kept q = ap length q ∙ over-length h (4 * n) (column (coreBit (geometryAt v n ps)) n) (omega (arith, length-numbers (coreBit (geometryAt v n ps)) n, label-length, p .2)) ∙ label-length
+
+    pub label-end : {u : List ℕ} → u ≡ over h (4 * n) (column (coreBit (geometryAt v n ps)) n) → over u (14 * n) (replicate (10 * n) 0) ≡ over w₀ (4 * n) (column (coreBit (geometryAt v n ps)) n)
+    label-end q =
         let key = frameKey v n ps in
         let D : List ℕ = column (coreBit (geometryAt v n ps)) n in
         let d : length D ≡ n = length-numbers (coreBit (geometryAt v n ps)) n in
         let l : length (over w₀ (4 * n) D) ≡ length w₀ = over-length w₀ (4 * n) D (omega (arith, p .2)) in
-        ap (λ (z : List ℕ). over z (14 * n) (replicate (10 * n) 0)) (fill-end F h ∙ sorted-under key n (8 * n) (16 * n) n (le-refl n) (behind n) (key-low v n ps) w₀ (omega (arith, p .2)) (omega (arith, p .2)) (4 * n) D (omega arith) (omega arith))
+        ap (λ (z : List ℕ). over z (14 * n) (replicate (10 * n) 0)) (q ∙ ap (λ (z : List ℕ). over z (4 * n) D) e ∙ sorted-under key n (8 * n) (16 * n) n (le-refl n) (behind n) (key-low v n ps) w₀ (omega (arith, p .2)) (omega (arith, p .2)) (4 * n) D (omega arith) (omega arith))
         ∙ sorted-cleared key n (8 * n) (16 * n) n (le-refl n) (behind n) (key-low v n ps) (over w₀ (4 * n) D) (omega (arith, p .2)) (omega (arith, p .2)) (14 * n) (10 * n) (omega arith) (omega arith) (omega arith) (omega arith) (omega (arith, p .2))
-        (clear-after w₀ (14 * n) (10 * n) (4 * n) D (omega (arith, p .2)) (omega arith) (p .3))
+        (clear-after w₀ (14 * n) (10 * n) (4 * n) D (omega (arith, p .2)) (omega arith) later-clear)
 
 -- ---- all frames are sorted: their keys are written, then they are sorted, then the keys are cleared
 module _ {ps : List ℤ} {v : ValidParams} {n : ℕ} (w₀ : List ℕ) (p : Ready ps v n × (24 * n ≤ length w₀) × Clear w₀ (14 * n) (10 * n))

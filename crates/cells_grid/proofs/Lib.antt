@@ -10,3 +10,4 @@ pub mod Searching
 pub mod Sorting
 pub mod Gathering
 pub mod Neighbours
+pub mod PairLoops

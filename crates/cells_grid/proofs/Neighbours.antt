@@ -238,9 +238,20 @@ module _ {ps : List ℤ} {v : ValidParams} {n i : ℕ} {w : List ℕ} (m : ℕ) 
     pub rest-fits : (0 ≤ s .rest) × (s .rest ≤ n) × Below n (part w (14 * n + 0) (s .rest - 0))
     rest-fits = (omega arith, omega (arith, H .high, H .rest-low), λ x j. low x (append-two x A B j))
 
+    pub rest-short : s .rest ≤ s .to
+    rest-short = H .rest-low
+
+    -- those that pass a test in the row, as the stretch has them
+    pub row-parts : (f : ℕ → Bool) → foundIn (v .t) v n ps (8 * n - 1) itself every n i f m
+        ≡ keep (λ x. sameNats (rowOf (v .t) v n ps x) (rowAround (v .t) v n ps i m) && f x) (part w (14 * n + s .«from») (s .to - s .«from»))
+        ++ keep (λ x. sameNats (rowOf (v .t) v n ps x) (rowAround (v .t) v n ps i m) && f x) (part w (14 * n + 0) (s .rest - 0))
+    unfolding foundIn pairAt
+    row-parts f =
+        let h : ℕ → Bool = λ x. sameNats (rowOf (v .t) v n ps x) (rowAround (v .t) v n ps i m) && f x in
+        ap (λ (z : ℕ). keep h (numbered (frameKey v n ps) n z ++ numbered (frameKey v n ps) n ((z + 1) % (8 * n - 1)))) (sym around)
+        ∙ ap (keep h) (sym (H .both))
+        ∙ keep-append h A B
+
     pub row-sum : neighboursIn v n ps i m ≡ howMany (neighbourIn v n ps i m) (part w (14 * n + s .«from») (s .to - s .«from»)) + howMany (neighbourIn v n ps i m) (part w (14 * n + 0) (s .rest - 0))
-    unfolding neighboursIn foundIn pairAt
-    row-sum =
-        ap (λ (z : ℕ). howMany f (numbered (frameKey v n ps) n z ++ numbered (frameKey v n ps) n ((z + 1) % (8 * n - 1)))) (sym around)
-        ∙ ap (howMany f) (sym (H .both))
-        ∙ ap length (keep-append f A B) ∙ length-append (keep f A) (keep f B)
+    unfolding neighboursIn
+    row-sum = ap length (row-parts (neighbour (geometryAt v n ps) i)) ∙ length-append (keep f A) (keep f B)

@@ -10,3 +10,6 @@ pub mod Ready
 pub mod Crowding
 pub mod Listing
 pub mod ListingLaws
+pub mod Pairs
+pub mod RaisedLaws
+pub mod PairLaws

@@ -20,15 +20,15 @@ ghost use Rattle.cells_grid.specs.Arrangement.{Arranged};
 ghost use Rattle.cells_grid.specs.Crowding.{frameKey, neighbourIn, neighboursIn};
 
 // From 16n on stands where the frames of each bucket end, eight words a frame: in all one more than there are buckets. (With so many, few frames of other rows fall into a stretch.)
-const ENDS: usize = 16;
+pub const ENDS: usize = 16;
 
-const BUCKETS: usize = 8;
+pub const BUCKETS: usize = 8;
 
 // The sorted frames, their keys and those ends stand in so many words a frame, from 14n on.
 pub const WORDS: usize = ENDS + BUCKETS - blocks::PLACES;
 
 // How wide the blocks are.
-fn width(v: ValidParams) -> u64
+pub fn width(v: ValidParams) -> u64
     requires { ⌜ v .t ≤ 65535 ⌝ }
     ensures { λ r. ⌜ r ≡ Blocks.width (v .t) ⌝ }
 {
@@ -53,7 +53,7 @@ pub fn sort_frames(points: &[i16], v: ValidParams, n: usize, work: &mut [Word])
 
 // Whether frame j is a neighbour of frame i in row m of those that begin at `first`; `own` is the first frame of frame i's cell.
 // (Nearly all frames of a stretch lie in the row, so the distance is asked first.)
-fn is_neighbour(
+pub fn is_neighbour(
     points: &[i16],
     v: ValidParams,
     n: usize,

@@ -51,8 +51,8 @@ module _ {ps : List ℤ} {v : ValidParams} {n : ℕ} (r : Ready ps v n) (w : Lis
     pub arranged₁ : Arranged g k w₁
     arranged₁ = rw (e, e₁) (populated-arranged g (ready-lawful r) w₀ (omega (arith, f, h₀)))
 
-    pub clear₁ : Clear w₁ (14 * n) (10 * n)
-    clear₁ = clear-within w₁ (10 * n) (14 * n) (14 * n) (10 * n) (within-clear within₁ (10 * n) (14 * n) (omega arith) all-clear) (omega arith) (omega arith)
+    pub clear₁ : Clear w₁ (10 * n) (14 * n)
+    clear₁ = within-clear within₁ (10 * n) (14 * n) (omega arith) all-clear
 
     module _ {w₂ : List ℕ} (e₂ : w₂ ≡ over w₁ (4 * n) (column (coreBit g) n)) where
       within₂ : Within (5 * n) w₀ w₂
