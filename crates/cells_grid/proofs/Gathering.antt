@@ -17,8 +17,8 @@ use Rattle.cells_grid.specs.Cells.{cells}
 use Rattle.cells_grid.specs.Arrangement.{cellAt, Arranged}
 use Rattle.cells_grid.specs.Ready.{ready-lawful}
 use Rattle.cells_grid.specs.ArrangementLaws.{first-word, first-word-low, arranged-over}
-use Rattle.cells_grid.specs.Listing.{reachOf, unmarked, listIn, listFrom, listOf, laterOf, CellsSorted}
-use Rattle.cells_grid.specs.ListingLaws.{unmarked-all, unmarked-le, unmarked-append, unmarked-over, few, in-below, list-length, list-rows, later-length, cells-sorted-over}
+use Rattle.cells_grid.specs.Listing.{reachOf, unmarked, listIn, listFrom, listOf, laterOf, CellsSorted, MarkedRuns}
+use Rattle.cells_grid.specs.ListingLaws.{unmarked-all, unmarked-le, unmarked-append, unmarked-over, few, in-below, list-length, list-rows, later-length, cells-sorted-over, marked-runs-over}
 
 -- where no word is the mark, no cell is left out
 pub none-marked : (w : List ℕ) (a m b : ℕ) (ds : List ℕ) → ((d : ℕ) → getD w (a + d) 0 ≡ m → ⊥) → {x : ℕ} {u : List ℕ} → (x ≡ length (unmarked w a m ds)) × (u ≡ over w b (unmarked w a m ds)) → (x ≡ length ds) × (u ≡ over w b ds)
@@ -42,7 +42,7 @@ module _ (v : ValidParams) (n : ℕ) (ps : List ℤ) (i : ℕ) where
       ap (listFrom v n ps i a r) e ∙ ap (λ (x : ℕ). listIn v n ps i a r ++ listFrom v n ps i 0 x (R - (r + 1))) (sym (add-one r))
 
   -- they are searched in the words w₀
-  pub record Asked (k after start marks : ℕ) (w₀ : List ℕ) : Type 0 where
+  pub record Asked (k after start marks mark : ℕ) (w₀ : List ℕ) : Type 0 where
     pub ready : Ready ps v n
     pub arranged : Arranged (geometryAt v n ps) k w₀
     pub sorted : CellsSorted v n ps w₀
@@ -50,6 +50,7 @@ module _ (v : ValidParams) (n : ℕ) (ps : List ℤ) (i : ℕ) where
     pub apart : marks + n ≤ 10 * n
     pub low : start < 2 ^ (v .channels - 1)
     pub room : length (rowsFrom after start) ≤ n
+    pub runs : MarkedRuns w₀ n k marks mark
 
   -- of the rows before r the cells `done` are found, and of these the unmarked ones listed; left are the rows from r on, of which in row r only the cells with numbers from `least` on
   pub record Gathering (after start marks mark : ℕ) (w₀ w : List ℕ) (m r least : ℕ) : Type 0 where
@@ -59,15 +60,15 @@ module _ (v : ValidParams) (n : ℕ) (ps : List ℤ) (i : ℕ) where
     pub laid : w ≡ over w₀ (15 * n) (unmarked w₀ marks mark done)
     pub left : done ++ rowsFrom least r ≡ rowsFrom after start
 
-module _ {v : ValidParams} {n : ℕ} {ps : List ℤ} {i k after start marks : ℕ} {w₀ : List ℕ} (S : Asked v n ps i k after start marks w₀) where
+module _ {v : ValidParams} {n : ℕ} {ps : List ℤ} {i k after start marks mark : ℕ} {w₀ : List ℕ} (S : Asked v n ps i k after start marks mark w₀) where
   abbrev g : Geometry
   g = geometryAt v n ps
 
-  pub gathering-start : {mark : ℕ} → Gathering v n ps i after start marks mark w₀ w₀ 0 start after
+  pub gathering-start : Gathering v n ps i after start marks mark w₀ w₀ 0 start after
   unfolding unmarked
   gathering-start = record { high = omega (arith, S .low); done = []; count = refl; laid = sym (over-nil w₀ (15 * n)); left = refl }
 
-  module _ {mark : ℕ} {w : List ℕ} {m r least : ℕ} (G : Gathering v n ps i after start marks mark w₀ w m r least) where
+  module _ {w : List ℕ} {m r least : ℕ} (G : Gathering v n ps i after start marks mark w₀ w m r least) where
     abbrev free : List ℕ → List ℕ
     free = unmarked w₀ marks mark
 
@@ -85,6 +86,9 @@ module _ {v : ValidParams} {n : ℕ} {ps : List ℤ} {i k after start marks : �
 
     pub gathering-sorted : CellsSorted v n ps w
     gathering-sorted = subst (CellsSorted v n ps) (sym (G .laid)) (cells-sorted-over (S .ready) (15 * n) D (omega (arith, S .fit)) (inr (omega arith)) (S .sorted))
+
+    pub gathering-runs : MarkedRuns w n k marks mark
+    gathering-runs = subst (λ (z : List ℕ). MarkedRuns z n k marks mark) (sym (G .laid)) (marked-runs-over (S .ready) (S .sorted) marks (omega (arith, S .arranged .count)) (S .apart) (S .runs) (15 * n) D (omega arith) (omega (arith, S .fit)))
 
     module _ (more : r < 2 ^ (v .channels - 1)) where
       abbrev row : List ℕ

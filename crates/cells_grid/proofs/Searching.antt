@@ -1,9 +1,10 @@
--- A stretch of the sorted cells is walked, and the unmarked ones that lie in a row and near are listed; a row has two such stretches.
+-- A stretch of the sorted cells is walked, marked ones are passed with their runs, and the unmarked ones that lie in a row and near are listed; a row has two such stretches.
 use mathlib.Core.Path.{_≡_, refl, sym, ap, ap₂, subst, _∙_}
 use mathlib.Core.Logic.{inr}
 use mathlib.Core.Bool.{Bool, true, false, not, _&&_, cond, and-true, and-false}
 use mathlib.Core.List.{List, [], _∷_, _++_, append-assoc, append-nil}
-use Prim.Native.Nat.{ℕ, _+_, _-_, _*_, _/_, _%_, _<_, _≤_}
+use Prim.Native.Nat.{ℕ, zero, suc, _+_, _-_, _*_, _/_, _%_, _<_, _≤_}
+use native.Mathlib.Decide.{decLt}
 use native.Mathlib.Omega.{arith}
 use lib.IntN.{ℤ, pos}
 use lib.Dec.{eqb}
@@ -27,11 +28,11 @@ use Rattle.cells_grid.specs.Cells.{cells}
 use Rattle.cells_grid.specs.Arrangement.{cellAt, Arranged}
 use Rattle.cells_grid.specs.Ready.{ready-lawful}
 use Rattle.cells_grid.specs.ArrangementLaws.{words-room, first-word, first-word-low, arranged-over}
-use Rattle.cells_grid.specs.Listing.{reachOf, unmarked, cellKey, nearAt, nearIn, listIn, CellsSorted}
-use Rattle.cells_grid.specs.ListingLaws.{unmarked-more, unmarked-append, unmarked-over, few, in-below, cells-sorted-over, sorted-cell}
+use Rattle.cells_grid.specs.Listing.{reachOf, unmarked, cellKey, nearAt, nearIn, listIn, CellsSorted, MarkedRuns}
+use Rattle.cells_grid.specs.ListingLaws.{unmarked-more, unmarked-append, unmarked-over, few, in-below, cells-sorted-over, sorted-cell, marked-runs-over}
 
 module _ {v : ValidParams} {n : ℕ} {ps : List ℤ} {i : ℕ} {first : List ℕ} (R : Rows (reachOf v) v n ps i first) where
-  -- ---- whether a cell is found: its mark x first, then whether its first frame j is near, then its row
+  -- ---- whether a cell is found: its number first, then whether its first frame j is near, then its row
   module _ {w : List ℕ} (A : Arranged (geometryAt v n ps) (length (cells (geometryAt v n ps))) w) {d : ℕ} (h : d < length (cells (geometryAt v n ps))) where
     pub found-room : n + d < length w
     found-room = omega (arith, words-room (geometryAt v n ps) (ready-lawful (R .ready)) A n (at-frames v n ps), few (R .ready))
@@ -43,31 +44,25 @@ module _ {v : ValidParams} {n : ℕ} {ps : List ℤ} {i : ℕ} {first : List ℕ
       pub found-below : j < n
       found-below = omega (arith, e, first-word-low (geometryAt v n ps) (ready-lawful (R .ready)) A n (at-frames v n ps) d h)
 
-    module _ (after r marks mark : ℕ) {x : ℕ} (q : x ≡ getD w (marks + d) 0) where
-      pub found-marked : x ≡ mark → false ≡ not (eqb (getD w (marks + d) 0) mark) && nearIn v n ps i after r d
-      found-marked m = sym (ap (λ (z : Bool). not z && nearIn v n ps i after r d) (eq-eqb (getD w (marks + d) 0) mark (sym q ∙ m)))
-
+    module _ (after r : ℕ) where
       abbrev S : Bool
       S = sameNats (rowOf (reachOf v) v n ps (cellAt (geometryAt v n ps) d)) (rowAround (reachOf v) v n ps i r)
 
-      pub found-before : (x ≡ mark → ⊥) → d < after → false ≡ not (eqb (getD w (marks + d) 0) mark) && nearIn v n ps i after r d
-      found-before m a = sym (ap (λ (z : Bool). not (eqb (getD w (marks + d) 0) mark) && (S && (z && nearAt v n ps i d))) (lt-leb after d a)
-          ∙ ap (λ (z : Bool). not (eqb (getD w (marks + d) 0) mark) && z) (and-false S) ∙ and-false (not (eqb (getD w (marks + d) 0) mark)))
+      pub found-before : d < after → false ≡ nearIn v n ps i after r d
+      found-before a = sym (ap (λ (z : Bool). S && (z && nearAt v n ps i d)) (lt-leb after d a) ∙ and-false S)
 
-      module _ (m : x ≡ mark → ⊥) (a : after ≤ d) {j : ℕ} (e : j ≡ getD w (n + d) 0) {t : Bool} (l : t ≡ geometryAt v n ps .near i j) where
-        unless : {b : Bool} → b ≡ S && t → b ≡ not (eqb (getD w (marks + d) 0) mark) && nearIn v n ps i after r d
-        unless k = k
-            ∙ ap (λ (z : Bool). S && z) (l ∙ ap (geometryAt v n ps .near i) (first-is e) ∙ sym (ap (λ (z : Bool). z && nearAt v n ps i d) (le-leb after d a)))
-            ∙ sym (ap (λ (z : Bool). not z && nearIn v n ps i after r d) (ne-eqb (getD w (marks + d) 0) mark (λ y. m (q ∙ y))))
+      module _ (a : after ≤ d) {j : ℕ} (e : j ≡ getD w (n + d) 0) {t : Bool} (l : t ≡ geometryAt v n ps .near i j) where
+        unless : {b : Bool} → b ≡ S && t → b ≡ nearIn v n ps i after r d
+        unless k = k ∙ ap (λ (z : Bool). S && z) (l ∙ ap (geometryAt v n ps .near i) (first-is e) ∙ sym (ap (λ (z : Bool). z && nearAt v n ps i d) (le-leb after d a)))
 
         pub found-near : t ≡ true → {a : ℕ} {b : Bool} → a ≡ width (reachOf v) → b ≡ sameNats (keyOf a (drop 1 (frameAt (reachOf v) v n ps j))) (shifted a (take (v .channels - 1) (drop 1 first)) r)
-            → b ≡ not (eqb (getD w (marks + d) 0) mark) && nearIn v n ps i after r d
+            → b ≡ nearIn v n ps i after r d
         found-near k {a} {b} y s = unless (s
             ∙ ap (λ (z : ℕ). sameNats (keyOf z (drop 1 (frameAt (reachOf v) v n ps j))) (shifted z (take (v .channels - 1) (drop 1 first)) r)) y
             ∙ ap₂ (λ (u : ℕ) (l : List ℕ). sameNats (rowOf (reachOf v) v n ps u) l) (first-is e) (rows-row R r)
             ∙ sym (ap (λ (z : Bool). S && z) k ∙ and-true S))
 
-        pub found-far : t ≡ false → false ≡ not (eqb (getD w (marks + d) 0) mark) && nearIn v n ps i after r d
+        pub found-far : t ≡ false → false ≡ nearIn v n ps i after r d
         found-far k = unless (sym (ap (λ (z : Bool). S && z) k ∙ and-false S))
 
 -- ---- a stretch
@@ -87,13 +82,12 @@ module _ (v : ValidParams) (n : ℕ) (ps : List ℤ) where
     pub sorted : CellsSorted v n ps w₀
     pub fit : 16 * n ≤ length w₀
     pub apart : marks + n ≤ 10 * n
-    pub low : a ≤ b
     pub high : b ≤ length (cells (geometryAt v n ps))
     pub room : m + length (stretch i after r w₀ marks mark a b) ≤ n
+    pub runs : MarkedRuns w₀ n (length (cells (geometryAt v n ps))) marks mark
 
-  -- the walk stands before p: the cells `done` are listed
+  -- the walk stands before p, which a run may lead past b: the cells `done` are listed
   pub record Walking (i after r marks mark m a b : ℕ) (w₀ w : List ℕ) (to p : ℕ) : Type 0 where
-    pub reached : p ≤ b
     pub done : List ℕ
     pub count : to ≡ m + length done
     pub laid : w ≡ over w₀ (15 * n + m) done
@@ -116,8 +110,38 @@ module _ {v : ValidParams} {n : ℕ} {ps : List ℤ} {i after r marks mark m a b
   abbrev coming : ℕ → List ℕ
   coming p = stretch v n ps i after r w₀ marks mark p b
 
+  -- ---- what is left of the stretch at place q, and at the next one
+  none-coming : (q : ℕ) → b ≤ q → coming q ≡ []
+  unfolding unmarked
+  none-coming q h =
+      let e : b - q ≡ 0 = omega arith in
+      ap (λ (x : ℕ). unmarked w₀ marks mark (keep (nearIn v n ps i after r) (part w₀ (14 * n + q) x))) e
+
+  abbrev cell : ℕ → ℕ
+  cell q = getD w₀ (14 * n + q) 0
+
+  step : (q : ℕ) → q < b → coming q ≡ cond (not (eqb (getD w₀ (marks + cell q) 0) mark) && nearIn v n ps i after r (cell q)) (cell q ∷ coming (q + 1)) (coming (q + 1))
+  step q h =
+      ap (λ (l : List ℕ). unmarked w₀ marks mark (keep (nearIn v n ps i after r) l)) (part-step w₀ (14 * n) b q (omega (arith, S .high, few (S .ready), S .fit)) h)
+      ∙ unmarked-more w₀ marks mark (nearIn v n ps i after r (cell q)) (cell q) (keep (nearIn v n ps i after r) (part w₀ (14 * n + (q + 1)) (b - (q + 1))))
+
+  -- a marked cell is none of them, nor are j marked ones in a row
+  marked-step : (q : ℕ) → (q < b → getD w₀ (marks + cell q) 0 ≡ mark) → coming q ≡ coming (q + 1)
+  marked-step q h = elim (decLt q b) [
+    | yes l ↦ step q l ∙ ap (λ (z : Bool). cond (not z && nearIn v n ps i after r (cell q)) (cell q ∷ coming (q + 1)) (coming (q + 1))) (eq-eqb (getD w₀ (marks + cell q) 0) mark (h l))
+    | no l ↦ none-coming q (omega arith) ∙ sym (none-coming (q + 1) (omega arith))
+  ]
+
+  marked-steps : (j q : ℕ) → ((x : ℕ) → x < j → q + x < b → getD w₀ (marks + cell (q + x)) 0 ≡ mark) → coming q ≡ coming (q + j)
+  marked-steps zero q h =
+      let e : q ≡ q + 0 = omega arith in
+      ap coming e
+  marked-steps (suc j) q h =
+      let e : q + j + 1 ≡ q + suc j = omega arith in
+      marked-steps j q (λ x l. h x (omega arith)) ∙ marked-step (q + j) (h j (omega arith)) ∙ ap coming e
+
   pub walking-start : Walking v n ps i after r marks mark m a b w₀ w₀ m a
-  walking-start = record { reached = S .low; done = []; count = omega arith; laid = sym (over-nil w₀ (15 * n + m)); left = refl }
+  walking-start = record { done = []; count = omega arith; laid = sym (over-nil w₀ (15 * n + m)); left = refl }
 
   module _ {w : List ℕ} {to p : ℕ} (W : Walking v n ps i after r marks mark m a b w₀ w to p) where
     some : length (W .done) + length (coming p) ≡ length all
@@ -129,9 +153,6 @@ module _ {v : ValidParams} {n : ℕ} {ps : List ℤ} {i after r marks mark m a b
     pub walking-length : length w ≡ length w₀
     walking-length = ap length (W .laid) ∙ over-length w₀ (15 * n + m) (W .done) (omega (arith, some, S .room, S .fit))
 
-    pub walking-place : p ≤ n
-    walking-place = omega (arith, W .reached, S .high, few (S .ready))
-
     pub walking-arranged : Arranged (geometryAt v n ps) (length (cells (geometryAt v n ps))) w
     walking-arranged = subst (Arranged (geometryAt v n ps) (length (cells (geometryAt v n ps)))) (sym (W .laid)) (arranged-over (geometryAt v n ps) (15 * n + m) (W .done) (omega (arith, at-frames v n ps)) (omega (arith, S .fit, S .room)) (S .arranged))
 
@@ -139,56 +160,70 @@ module _ {v : ValidParams} {n : ℕ} {ps : List ℤ} {i after r marks mark m a b
     word-same : (x : ℕ) → x < 15 * n → getD w x 0 ≡ getD w₀ x 0
     word-same x h = ap (λ (z : List ℕ). getD z x 0) (W .laid) ∙ get-under w₀ (15 * n + m) x (W .done) (omega arith) (omega (arith, some, S .room, S .fit))
 
-    module _ (more : p < b) {d : ℕ} (e : d ≡ getD w (14 * n + p) 0) where
-      was : d ≡ getD w₀ (14 * n + p) 0
-      was = e ∙ word-same (14 * n + p) (omega (arith, S .high, few (S .ready)))
+    module _ (more : p < b) where
+      pub walking-place : p < n
+      walking-place = omega (arith, S .high, few (S .ready))
 
-      pub walking-cell : d < length (cells (geometryAt v n ps))
-      walking-cell = omega (arith, was, sorted-cell (S .ready) (S .sorted) p (omega (arith, S .high)))
+      pub walking-word : {l : ℕ} → l ≡ getD w (8 * n + p) 0 → l ≡ getD w₀ (8 * n + p) 0
+      walking-word f = f ∙ word-same (8 * n + p) (omega (arith, walking-place))
 
-      pub walking-mark : marks + d < length w
-      walking-mark = omega (arith, walking-cell, few (S .ready), walking-length, S .apart, S .fit)
+      module _ {d : ℕ} (e : d ≡ getD w (14 * n + p) 0) where
+        was : d ≡ cell p
+        was = e ∙ word-same (14 * n + p) (omega (arith, walking-place))
 
-      module _ {t : Bool} (h : t ≡ not (eqb (getD w (marks + d) 0) mark) && nearIn v n ps i after r d) where
-        -- the marks lie below the list, so they are as they were
-        as-tested : not (eqb (getD w₀ (marks + d) 0) mark) && nearIn v n ps i after r d ≡ t
-        as-tested = sym (h ∙ ap (λ (z : ℕ). not (eqb z mark) && nearIn v n ps i after r d) (word-same (marks + d) (omega (arith, walking-cell, few (S .ready), S .apart))))
+        pub walking-cell : d < length (cells (geometryAt v n ps))
+        walking-cell = omega (arith, was, sorted-cell (S .ready) (S .sorted) p (omega (arith, S .high)))
 
-        now-left : coming p ≡ cond t (d ∷ coming (p + 1)) (coming (p + 1))
-        now-left =
-            ap (λ (l : List ℕ). unmarked w₀ marks mark (keep (nearIn v n ps i after r) l)) (part-step w₀ (14 * n) b p (omega (arith, S .high, few (S .ready), S .fit)) more ∙ ap (λ (z : ℕ). z ∷ part w₀ (14 * n + (p + 1)) (b - (p + 1))) (sym was))
-            ∙ unmarked-more w₀ marks mark (nearIn v n ps i after r d) d (keep (nearIn v n ps i after r) (part w₀ (14 * n + (p + 1)) (b - (p + 1))))
-            ∙ ap (λ (s : Bool). cond s (d ∷ coming (p + 1)) (coming (p + 1))) as-tested
+        pub walking-mark : marks + d < length w
+        walking-mark = omega (arith, walking-cell, few (S .ready), walking-length, S .apart, S .fit)
 
-      pub walking-miss : {t : Bool} → t ≡ not (eqb (getD w (marks + d) 0) mark) && nearIn v n ps i after r d → t ≡ false → Walking v n ps i after r marks mark m a b w₀ w to (p + 1)
-      walking-miss {t} h f = record {
-        reached = omega arith;
-        done = W .done;
-        count = W .count;
-        laid = W .laid;
-        left = ap (λ (l : List ℕ). W .done ++ l) (sym (now-left (sym f ∙ h))) ∙ W .left;
-      }
+        module _ {x : ℕ} (y : x ≡ getD w (marks + d) 0) where
+          -- the marks lie below the list, so they are as they were
+          mark-was : x ≡ getD w₀ (marks + cell p) 0
+          mark-was = y ∙ word-same (marks + d) (omega (arith, walking-cell, few (S .ready), S .apart)) ∙ ap (λ (z : ℕ). getD w₀ (marks + z) 0) was
 
-      module _ {t : Bool} (h : t ≡ not (eqb (getD w (marks + d) 0) mark) && nearIn v n ps i after r d) (f : t ≡ true) where
-        pub walking-room : to < n
-        walking-room = omega (arith, W .count, some, ap length (now-left (sym f ∙ h)), S .room)
+          -- a marked cell is passed, and its run
+          pub walking-run : x ≡ mark → {l : ℕ} → l ≡ getD w (8 * n + p) 0 → Walking v n ps i after r marks mark m a b w₀ w to (p + 1 + l)
+          walking-run t {l} f =
+              let c : p + suc l ≡ p + 1 + l = omega arith in
+              record {
+                done = W .done;
+                count = W .count;
+                laid = W .laid;
+                left = ap (λ (z : List ℕ). W .done ++ z) (sym (marked-steps (suc l) p (λ z h k. S .runs p z (omega (arith, S .high)) (sym mark-was ∙ t) (omega (arith, walking-word f))) ∙ ap coming c)) ∙ W .left;
+              }
 
-        pub walking-hit : Walking v n ps i after r marks mark m a b w₀ (set w (15 * n + to) d) (to + 1) (p + 1)
-        walking-hit = record {
-          reached = omega arith;
-          done = W .done ++ (d ∷ []);
-          count = omega (arith, W .count, length-append (W .done) (d ∷ []));
-          laid = ap (λ (z : List ℕ). set z (15 * n + to) d) (W .laid)
-              ∙ over-snoc w₀ (15 * n + m) (15 * n + to) (W .done) d (omega (arith, W .count)) (omega (arith, walking-room, S .fit));
-          left = append-assoc (W .done) (d ∷ []) (coming (p + 1)) ∙ ap (λ (l : List ℕ). W .done ++ l) (sym (now-left (sym f ∙ h))) ∙ W .left;
-        }
+          module _ (u : x ≡ mark → ⊥) {t : Bool} (h : t ≡ nearIn v n ps i after r d) where
+            now-left : {s : Bool} → t ≡ s → coming p ≡ cond s (d ∷ coming (p + 1)) (coming (p + 1))
+            now-left f = step p more
+                ∙ ap (λ (z : Bool). cond (not z && nearIn v n ps i after r (cell p)) (cell p ∷ coming (p + 1)) (coming (p + 1))) (ne-eqb (getD w₀ (marks + cell p) 0) mark (λ z. u (mark-was ∙ z)))
+                ∙ ap (λ (z : ℕ). cond (nearIn v n ps i after r z) (z ∷ coming (p + 1)) (coming (p + 1))) (sym was)
+                ∙ ap (λ (z : Bool). cond z (d ∷ coming (p + 1)) (coming (p + 1))) (sym h ∙ f)
+
+            pub walking-miss : t ≡ false → Walking v n ps i after r marks mark m a b w₀ w to (p + 1)
+            walking-miss f = record {
+              done = W .done;
+              count = W .count;
+              laid = W .laid;
+              left = ap (λ (l : List ℕ). W .done ++ l) (sym (now-left f)) ∙ W .left;
+            }
+
+            module _ (f : t ≡ true) where
+              pub walking-room : to < n
+              walking-room = omega (arith, W .count, some, ap length (now-left f), S .room)
+
+              pub walking-hit : Walking v n ps i after r marks mark m a b w₀ (set w (15 * n + to) d) (to + 1) (p + 1)
+              walking-hit = record {
+                done = W .done ++ (d ∷ []);
+                count = omega (arith, W .count, length-append (W .done) (d ∷ []));
+                laid = ap (λ (z : List ℕ). set z (15 * n + to) d) (W .laid)
+                    ∙ over-snoc w₀ (15 * n + m) (15 * n + to) (W .done) d (omega (arith, W .count)) (omega (arith, walking-room, S .fit));
+                left = append-assoc (W .done) (d ∷ []) (coming (p + 1)) ∙ ap (λ (l : List ℕ). W .done ++ l) (sym (now-left f)) ∙ W .left;
+              }
 
     pub walking-end : b ≤ p → (to ≡ m + length (stretch v n ps i after r w₀ marks mark a b)) × (w ≡ over w₀ (15 * n + m) (stretch v n ps i after r w₀ marks mark a b))
-    unfolding unmarked
     walking-end h =
-        let z : p ≡ b = omega (arith, W .reached) in
-        let y : b - b ≡ 0 = omega arith in
-        let l : W .done ≡ all = sym (append-nil (W .done)) ∙ ap (λ (q : ℕ). W .done ++ unmarked w₀ marks mark (keep (nearIn v n ps i after r) (part w₀ (14 * n + p) q))) (sym (ap (λ (q : ℕ). b - q) z ∙ y)) ∙ W .left in
+        let l : W .done ≡ all = sym (append-nil (W .done)) ∙ ap (λ (z : List ℕ). W .done ++ z) (sym (none-coming p h)) ∙ W .left in
         (W .count ∙ ap (λ (q : List ℕ). m + length q) l, W .laid ∙ ap (over w₀ (15 * n + m)) l)
 
 -- ---- a row: the cells of a bucket and of the next one
@@ -205,6 +240,7 @@ pub record Row (v : ValidParams) (n : ℕ) (ps : List ℤ) (k i after r along h 
   pub room : m + length (unmarked w marks mark (listIn v n ps i after r)) ≤ n
   pub bucket : b ≡ bucketAt (4 * k - 1) h along
   pub low : b < 4 * k - 1
+  pub runs : MarkedRuns w n k marks mark
   pub found : s ≡ stretchIn w (10 * n) b (4 * k - 1)
 
 module _ {v : ValidParams} {n : ℕ} {ps : List ℤ} {k i after r along h marks mark m b : ℕ} {first w : List ℕ} {s : Stretch} (Q : Row v n ps k i after r along h marks mark m b first w s) where
@@ -260,6 +296,10 @@ module _ {v : ValidParams} {n : ℕ} {ps : List ℤ} {k i after r along h marks 
 
     pub row-sorted : CellsSorted v n ps u
     row-sorted = subst (CellsSorted v n ps) (sym (I .laid)) (cells-sorted-over (Q .rows .ready) (15 * n + m) D (omega (arith, Q .fit, Q .room)) (inr (omega arith)) (Q .sorted))
+
+    pub row-runs : MarkedRuns u n (length (cells (geometryAt v n ps))) marks mark
+    row-runs = subst (λ (x : ℕ). MarkedRuns u n x marks mark) (Q .arranged .count) (subst (λ (z : List ℕ). MarkedRuns z n k marks mark) (sym (I .laid))
+        (marked-runs-over (Q .rows .ready) (Q .sorted) marks (omega (arith, Q .arranged .count)) (Q .apart) (Q .runs) (15 * n + m) D (omega arith) (omega (arith, Q .fit, Q .room))))
 
     -- the sorted cells and the marks lie below the list, so they are as they were
     as-before : stretch v n ps i after r u marks mark from to ≡ X

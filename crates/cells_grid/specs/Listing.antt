@@ -1,7 +1,8 @@
 -- The core cells that a cell lists, in the order in which a search by blocks finds them, and what the words hold for that search. Definitions only.
+use mathlib.Core.Path.{_≡_}
 use mathlib.Core.Bool.{Bool, not, _&&_}
 use mathlib.Core.List.{List, [], _++_}
-use Prim.Native.Nat.{ℕ, zero, suc, _+_, _-_, _*_, _^_}
+use Prim.Native.Nat.{ℕ, zero, suc, _+_, _-_, _*_, _^_, _<_, _≤_}
 use lib.IntN.{ℤ}
 use lib.Dec.{eqb, leb}
 use lib.ListN.{length, getD}
@@ -25,6 +26,10 @@ coreAt g c = coreCell g (cellAt g c)
 -- of the cells ds those whose word from `marks` on is not `mark`
 unfoldable pub unmarked : List ℕ → (marks mark : ℕ) → List ℕ → List ℕ
 unmarked w marks mark ds = keep (λ d. not (eqb (getD w (marks + d) 0) mark)) ds
+
+-- a marked one of the k sorted cells is followed by as many marked ones as its word from 8n on says
+abbrev pub MarkedRuns : List ℕ → (n k marks mark : ℕ) → Type 0
+MarkedRuns w n k marks mark = (p j : ℕ) → p + j < k → getD w (marks + getD w (14 * n + p) 0) 0 ≡ mark → j ≤ getD w (8 * n + p) 0 → getD w (marks + getD w (14 * n + (p + j)) 0) 0 ≡ mark
 
 -- how many core cells stand sorted: those before the last key, which the other cells have
 abbrev pub sortedCount : List ℕ → (n k : ℕ) → ℕ

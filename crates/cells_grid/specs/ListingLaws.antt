@@ -33,7 +33,7 @@ use Rattle.cells_grid.specs.Cells.{cells, listed, coreCell}
 use Rattle.cells_grid.specs.Arrangement.{cellAt}
 use Rattle.cells_grid.specs.Ready.{ready-lawful}
 use Rattle.cells_grid.specs.ArrangementLaws.{cells-le, cell-at-below, listed-at}
-use Rattle.cells_grid.specs.Listing.{reachOf, coreAt, unmarked, sortedCount, geo, cellBuckets, cellKey, nearAt, nearFrom, nearIn, listIn, listFrom, listOf, laterOf, CellsSorted}
+use Rattle.cells_grid.specs.Listing.{reachOf, coreAt, unmarked, sortedCount, geo, cellBuckets, cellKey, nearAt, nearFrom, nearIn, listIn, listFrom, listOf, laterOf, CellsSorted, MarkedRuns}
 
 -- words laid over words that are 0, and made 0 again
 laid-cleared : (w : List ℕ) (a : ℕ) (ws : List ℕ) (m : ℕ) → m ≡ length ws → a + m ≤ length w → Clear w a m → over (over w a ws) a (replicate m 0) ≡ w
@@ -316,3 +316,13 @@ module _ {ps : List ℤ} {v : ValidParams} {n : ℕ} (r : Ready ps v n) where
         let l : length P ≡ k = places-of-length (cellKey v n ps) k (4 * k) ∙ start-of-all (cellKey v n ps) k (4 * k) cell-key-below in
         let e : getD w (14 * n + p) 0 ≡ getD P p 0 = sym (part-at w (14 * n) k p h) ∙ ap (λ (z : List ℕ). getD z p 0) (H .numbers) in
         omega (arith, places-of-below (cellKey v n ps) k (4 * k) (getD P p 0) (at-in 0 P p (omega arith)))
+
+    -- words laid above the sorted cells keep the runs
+    pub marked-runs-over : {k mark : ℕ} (marks : ℕ) → k ≤ length (cells (geometryAt v n ps)) → marks + n ≤ 10 * n → MarkedRuns w n k marks mark
+        → (b : ℕ) (ws : List ℕ) → 15 * n ≤ b → b ≤ length w → MarkedRuns (over w b ws) n k marks mark
+    marked-runs-over {k} {mark} marks s a M b ws l h p j e m t =
+        mark-kept (p + j) e ∙ M p j e (sym (mark-kept p (omega arith)) ∙ m) (omega (arith, t, get-under w b (8 * n + p) ws (omega (arith, few)) h))
+      where
+        mark-kept : (q : ℕ) → q < k → getD (over w b ws) (marks + getD (over w b ws) (14 * n + q) 0) 0 ≡ getD w (marks + getD w (14 * n + q) 0) 0
+        mark-kept q z = ap (λ (x : ℕ). getD (over w b ws) (marks + x) 0) (get-under w b (14 * n + q) ws (omega (arith, few)) h)
+            ∙ get-under w b (marks + getD w (14 * n + q) 0) ws (omega (arith, few, sorted-cell q (omega arith))) h

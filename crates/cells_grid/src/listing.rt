@@ -4,9 +4,7 @@ use blocks::KEYS;
 use hyperparams::ValidParams;
 use lists::Word;
 ghost use mathlib.Core.Path.{_≡_};
-ghost use mathlib.Core.Bool.{not, _&&_};
 ghost use Prim.Native.Nat.{ℕ, _+_, _-_, _*_, _/_, _^_, _<_, _≤_};
-ghost use lib.Dec.{eqb};
 ghost use lib.ListN.{length, getD, replicate};
 ghost use Rattle.lists.specs.Lists.{keep, nonzero, Below};
 ghost use Rattle.lists.specs.Words.{over, part, Clear};
@@ -15,10 +13,13 @@ ghost use Rattle.blocks.specs.Blocks as Blocks;
 ghost use Rattle.blocks.specs.Blocks.{edgesOf, frameAt, rowHash, rowAround, sortedBy};
 ghost use Rattle.cells_grid.specs.Cells.{cells, coreCell};
 ghost use Rattle.cells_grid.specs.Arrangement.{cellAt, Arranged};
-ghost use Rattle.cells_grid.specs.Listing.{reachOf, sortedCount, cellKey, nearIn, unmarked, listIn, listFrom, listOf, laterOf, CellsSorted};
+ghost use Rattle.cells_grid.specs.Listing.{reachOf, sortedCount, cellKey, nearIn, unmarked, listIn, listFrom, listOf, laterOf, CellsSorted, MarkedRuns};
 
 // From 5n on: a word on the tree of each cell, 0 where it is no core cell.
 pub const TREES: usize = 5;
+
+// From 8n on, where marks are given: how many of the sorted cells right after each one have its mark. So these are passed at once.
+pub const RUNS: usize = 8;
 
 pub const LIST: usize = 15;
 
@@ -87,8 +88,8 @@ pub fn sorted_count(work: &[Word], n: usize, k: usize) -> usize
     lists::sorting::begins(work, ENDS * n, BUCKETS * k - 1)
 }
 
-// Whether cell d is not marked, its number is `after` or more, and its first frame lies in row r of those that begin at `first`, and near frame i.
-// (Most cells are marked, so that is asked first. Nearly all cells of a stretch lie in the row, so the distance is asked before the row.)
+// Whether cell d's number is `after` or more, and its first frame lies in row r of those that begin at `first`, and near frame i.
+// (Nearly all cells of a stretch lie in the row, so the distance is asked before the row.)
 fn is_found(
     points: &[i16],
     v: ValidParams,
@@ -99,16 +100,11 @@ fn is_found(
     i: usize,
     after: usize,
     d: usize,
-    marks: usize,
-    mark: usize,
 ) -> bool
     requires { ⌜ Ready (now points) v n × (i < n) × (first ≡ over (replicate 4 0) 0 (edgesOf (Blocks.width (reachOf v)) (reachOf v) (frameAt (reachOf v) v n (now points) i))) × Below 65536 first ⌝ }
-    requires { ⌜ Arranged (geometryAt v n (now points)) (length (cells (geometryAt v n (now points)))) (now work) × (d < length (cells (geometryAt v n (now points)))) × (marks + d < length (now work)) ⌝ }
-    ensures { λ b. ⌜ b ≡ not (eqb (getD (now (work .entry)) (marks + d) 0) mark) && nearIn v n (now (points .entry)) i after r d ⌝ }
+    requires { ⌜ Arranged (geometryAt v n (now points)) (length (cells (geometryAt v n (now points)))) (now work) × (d < length (cells (geometryAt v n (now points)))) ⌝ }
+    ensures { λ b. ⌜ b ≡ nearIn v n (now (points .entry)) i after r d ⌝ }
 {
-    if lists::word(work, marks + d) == mark {
-        return false;
-    }
     if d < after {
         return false;
     }
@@ -120,7 +116,7 @@ fn is_found(
 }
 
 // Writes the unmarked ones with numbers from `after` on of the sorted cells from `from` up to `end` whose first frames lie in row r, and near frame i, after the m words from 15n on.
-// Returns how many there are then.
+// Returns how many there are then. (Most cells are marked, so that is asked first, and those of a run are passed at once.)
 fn list_stretch(
     points: &[i16],
     v: ValidParams,
@@ -138,7 +134,8 @@ fn list_stretch(
 ) -> usize
     requires { ⌜ Ready (now points) v n × (i < n) × (first ≡ over (replicate 4 0) 0 (edgesOf (Blocks.width (reachOf v)) (reachOf v) (frameAt (reachOf v) v n (now points) i))) × Below 65536 first ⌝ }
     requires { ⌜ Arranged (geometryAt v n (now points)) (length (cells (geometryAt v n (now points)))) (now work) × CellsSorted v n (now points) (now work) × (16 * n ≤ length (now work)) × (marks + n ≤ 10 * n) ⌝ }
-    requires { ⌜ (from ≤ end) × (end ≤ length (cells (geometryAt v n (now points)))) × (m + length (unmarked (now work) marks mark (keep (nearIn v n (now points) i after r) (part (now work) (14 * n + from) (end - from)))) ≤ n) ⌝ }
+    requires { ⌜ (end ≤ length (cells (geometryAt v n (now points)))) × (m + length (unmarked (now work) marks mark (keep (nearIn v n (now points) i after r) (part (now work) (14 * n + from) (end - from)))) ≤ n) ⌝ }
+    requires { ⌜ MarkedRuns (now work) n (length (cells (geometryAt v n (now points)))) marks mark ⌝ }
     ensures { λ s. ⌜ s ≡ m + length (unmarked (now (work .entry)) marks mark (keep (nearIn v n (now (points .entry)) i after r) (part (now (work .entry)) (14 * n + from) (end - from)))) ⌝ }
     ensures { λ _. ⌜ now (work .exit) ≡ over (now (work .entry)) (15 * n + m) (unmarked (now (work .entry)) marks mark (keep (nearIn v n (now (points .entry)) i after r) (part (now (work .entry)) (14 * n + from) (end - from)))) ⌝ }
 {
@@ -147,7 +144,9 @@ fn list_stretch(
     while p < end {
         let next = p + 1;
         let d = lists::word(work, blocks::PLACES * n + p);
-        if is_found(points, v, n, work, first, r, i, after, d, marks, mark) {
+        if lists::word(work, marks + d) == mark {
+            p = next + lists::word(work, RUNS * n + p);
+        } else if is_found(points, v, n, work, first, r, i, after, d) {
             work[LIST * n + to] = d as Word;
             to += 1;
             p = next;
@@ -179,6 +178,7 @@ fn list_row(
     requires { ⌜ Ready (now points) v n × (i < n) × (first ≡ over (replicate 4 0) 0 (edgesOf (Blocks.width (reachOf v)) (reachOf v) (frameAt (reachOf v) v n (now points) i))) × Below 65536 first ⌝ }
     requires { ⌜ Arranged (geometryAt v n (now points)) k (now work) × CellsSorted v n (now points) (now work) × (16 * n ≤ length (now work)) × (marks + n ≤ 10 * n) ⌝ }
     requires { ⌜ (0 < k) × (h ≡ rowHash (rowAround (reachOf v) v n (now points) i r)) × (along ≡ getD first 0 0 / Blocks.width (reachOf v)) × (m + length (unmarked (now work) marks mark (listIn v n (now points) i after r)) ≤ n) ⌝ }
+    requires { ⌜ MarkedRuns (now work) n k marks mark ⌝ }
     ensures { λ s. ⌜ s ≡ m + length (unmarked (now (work .entry)) marks mark (listIn v n (now (points .entry)) i after r)) ⌝ }
     ensures { λ _. ⌜ now (work .exit) ≡ over (now (work .entry)) (15 * n + m) (unmarked (now (work .entry)) marks mark (listIn v n (now (points .entry)) i after r)) ⌝ }
 {
@@ -229,6 +229,7 @@ fn list_rows(
     requires { ⌜ Ready (now points) v n × (i < n) × (first ≡ over (replicate 4 0) 0 (edgesOf (Blocks.width (reachOf v)) (reachOf v) (frameAt (reachOf v) v n (now points) i))) × Below 65536 first ⌝ }
     requires { ⌜ Arranged (geometryAt v n (now points)) k (now work) × CellsSorted v n (now points) (now work) × (16 * n ≤ length (now work)) × (marks + n ≤ 10 * n) ⌝ }
     requires { ⌜ (0 < k) × (start < 2 ^ (v .channels - 1)) × (length (listFrom v n (now points) i after start (2 ^ (v .channels - 1) - start)) ≤ n) ⌝ }
+    requires { ⌜ MarkedRuns (now work) n k marks mark ⌝ }
     ensures { λ s. ⌜ s ≡ length (unmarked (now (work .entry)) marks mark (listFrom v n (now (points .entry)) i after start (2 ^ (v .channels - 1) - start))) ⌝ }
     ensures { λ _. ⌜ now (work .exit) ≡ over (now (work .entry)) (15 * n) (unmarked (now (work .entry)) marks mark (listFrom v n (now (points .entry)) i after start (2 ^ (v .channels - 1) - start))) ⌝ }
 {
@@ -285,6 +286,7 @@ pub fn list_later(
     mark: usize,
 ) -> usize
     requires { ⌜ Ready (now points) v n × Arranged (geometryAt v n (now points)) k (now work) × CellsSorted v n (now points) (now work) × (c < k) × (16 * n ≤ length (now work)) × (marks + n ≤ 10 * n) ⌝ }
+    requires { ⌜ MarkedRuns (now work) n k marks mark ⌝ }
     ensures { λ s. ⌜ s ≡ length (unmarked (now (work .entry)) marks mark (laterOf v n (now (points .entry)) c)) ⌝ }
     ensures { λ _. ⌜ now (work .exit) ≡ over (now (work .entry)) (15 * n) (unmarked (now (work .entry)) marks mark (laterOf v n (now (points .entry)) c)) ⌝ }
 {

@@ -4,7 +4,7 @@ use native.Mathlib.Omega.{arith}
 use Rattle.cells_grid.specs.Listing.{reachOf}
 use Rattle.cells_grid.proofs.Sorting.{cells-few}
 use Rattle.blocks.specs.AroundLaws.{Rows, rows-low}
-use Rattle.cells_grid.proofs.Searching.{Row, InRow, row-start, row-length, row-arranged, row-sorted, row-room, row-next, row-end}
+use Rattle.cells_grid.proofs.Searching.{Row, InRow, row-start, row-length, row-arranged, row-sorted, row-runs, row-room, row-next, row-end}
 use borrow.Author.Needs.{needs}
 use Rattle.cells_grid.proofs.listing.list_row.Statement.{statement}
 use Rattle.cells_grid.proofs.listing.list_row.Tie as tie
@@ -28,10 +28,11 @@ the-row c =
       sorted = p .0 .1;
       fit = p .0 .2;
       apart = p .0 .3;
-      least = p .1 .0;
-      hash = p .1 .1;
-      block = p .1 .2;
-      room = p .1 .3;
+      least = p .1 .0 .0;
+      hash = p .1 .0 .1;
+      block = p .1 .0 .2;
+      room = p .1 .0 .3;
+      runs = p .1 .1;
       bucket = c .before .bucket .ensures .0;
       low = c .before .bucket .ensures .1;
       found = c .stretch-at .ensures;
@@ -48,10 +49,10 @@ mul-stretch-at c = search needs
 
 -- @START = c .before .before
 bucket-requires : tie.Need-bucket-requires Inv-loop μ-loop
-bucket-requires c κs = (omega (arith, c .before .before .pre .1 .1 .0), omega (arith, c .before .before .pre .0 .0 .few, cells-few (c .before .before .pre .0 .0) (c .before .before .pre .1 .0 .0)), rows-low (the-rows (c .before .before)) (c .before .before .pre .1 .1 .2))
+bucket-requires c κs = (omega (arith, c .before .before .pre .1 .1 .0 .0), omega (arith, c .before .before .pre .0 .0 .few, cells-few (c .before .before .pre .0 .0) (c .before .before .pre .1 .0 .0)), rows-low (the-rows (c .before .before)) (c .before .before .pre .1 .1 .0 .2))
 
 stretch-at-requires : tie.Need-stretch-at-requires Inv-loop μ-loop
-stretch-at-requires c κs = (c .bucket .ensures .1, omega (arith, c .before .before .before .pre .1 .0 .2, c .before .before .before .pre .1 .1 .0, c .before .before .before .pre .0 .0 .few, cells-few (c .before .before .before .pre .0 .0) (c .before .before .before .pre .1 .0 .0)))
+stretch-at-requires c κs = (c .bucket .ensures .1, omega (arith, c .before .before .before .pre .1 .0 .2, c .before .before .before .pre .1 .1 .0 .0, c .before .before .before .pre .0 .0 .few, cells-few (c .before .before .before .pre .0 .0) (c .before .before .before .pre .1 .0 .0)))
 
 -- @After-stretch-at = c
 loop-holds : tie.Need-loop-holds Inv-loop μ-loop
@@ -59,7 +60,7 @@ loop-holds c = row-start (the-row c)
 
 -- @After-stretch-at = c .before .before .before
 list-stretch-requires : tie.Need-list-stretch-requires Inv-loop μ-loop
-list-stretch-requires c κs = let Q = the-row (c .before .before .before) in let I = c .before .before .loop .inv in (c .before .before .before .before .before .before .before .pre .0, ((row-arranged Q I, row-sorted Q I, omega (arith, c .before .before .before .before .before .before .before .pre .1 .0 .2, row-length Q I), c .before .before .before .before .before .before .before .pre .1 .0 .3), (I .low, I .high, row-room Q I)))
+list-stretch-requires c κs = let Q = the-row (c .before .before .before) in let I = c .before .before .loop .inv in (c .before .before .before .before .before .before .before .pre .0, ((row-arranged Q I, row-sorted Q I, omega (arith, c .before .before .before .before .before .before .before .pre .1 .0 .2, row-length Q I), c .before .before .before .before .before .before .before .pre .1 .0 .3), ((I .high, row-room Q I), row-runs Q I)))
 
 loop-less : tie.Need-loop-less Inv-loop μ-loop
 loop-less c = omega (arith, c .before .before .before .before .loop-test .taken)

@@ -5,7 +5,7 @@ use native.Mathlib.Omega.{arith}
 use lib.ListN.{getD}
 use Rattle.cells_grid.specs.Listing.{reachOf}
 use Rattle.blocks.specs.AroundLaws.{Rows, few-rows, rows-long, rows-hash}
-use Rattle.cells_grid.proofs.Gathering.{Gathering, Asked, gathering-start, gathering-length, gathering-arranged, gathering-sorted, gathering-room, gathering-next, gathering-end}
+use Rattle.cells_grid.proofs.Gathering.{Gathering, Asked, gathering-start, gathering-length, gathering-arranged, gathering-sorted, gathering-runs, gathering-room, gathering-next, gathering-end}
 use Rattle.cells_grid.proofs.listing.list_rows.Statement.{statement}
 use Rattle.cells_grid.proofs.listing.list_rows.Tie as tie
 
@@ -15,10 +15,10 @@ Inv-loop points v n k work₀ i start after marks mark first w along hashes rows
 abbrev μ-loop : tie.MeasureT-loop
 μ-loop points v n k work₀ i start after marks mark first w along hashes rows m₀ r₀ least₀ work m r least = rows - r
 
-asked : (c : tie.Start Inv-loop μ-loop) → Asked (c .args .v) (c .args .n) (c .args .points .now) (c .args .i) (c .args .k) (c .args .after) (c .args .start) (c .args .marks) (c .args .work .now)
+asked : (c : tie.Start Inv-loop μ-loop) → Asked (c .args .v) (c .args .n) (c .args .points .now) (c .args .i) (c .args .k) (c .args .after) (c .args .start) (c .args .marks) (c .args .mark) (c .args .work .now)
 asked c =
     let p = c .pre in
-    record { ready = p .0 .0; arranged = p .1 .0 .0; sorted = p .1 .0 .1; fit = p .1 .0 .2; apart = p .1 .0 .3; low = p .1 .1 .1; room = p .1 .1 .2 }
+    record { ready = p .0 .0; arranged = p .1 .0 .0; sorted = p .1 .0 .1; fit = p .1 .0 .2; apart = p .1 .0 .3; low = p .1 .1 .0 .1; room = p .1 .1 .0 .2; runs = p .1 .1 .1 }
 
 the-rows : (c : tie.Start Inv-loop μ-loop) → Rows (reachOf (c .args .v)) (c .args .v) (c .args .n) (c .args .points .now) (c .args .i) (c .args .t7)
 the-rows c = record { ready = c .pre .0 .0; below = c .pre .0 .1; begin = c .pre .0 .2; small = c .pre .0 .3 }
@@ -54,7 +54,7 @@ array-read-list-row c = omega (arith, few-rows (c .before .before .before .befor
 
 -- @START = c .before .before .before .before .before .before .before
 list-row-requires : tie.Need-list-row-requires Inv-loop μ-loop
-list-row-requires c κs = let R = the-rows (c .before .before .before .before .before .before .before) in let S = asked (c .before .before .before .before .before .before .before) in (c .before .before .before .before .before .before .before .pre .0, ((gathering-arranged S (c .before .before .loop .inv), gathering-sorted S (c .before .before .loop .inv), omega (arith, c .before .before .before .before .before .before .before .pre .1 .0 .2, gathering-length S (c .before .before .loop .inv)), c .before .before .before .before .before .before .before .pre .1 .0 .3), (c .before .before .before .before .before .before .before .pre .1 .1 .0, rows-hash R (c .before .before .before .before .before .width .ensures) (c .before .before .before .before .row-hashes .ensures .0) (c .before .before .loop .r) (omega (arith, c .before .loop-test .taken, c .before .before .before .row-count .ensures)), ap (λ (z : ℕ). getD (c .before .before .before .before .before .before .before .args .t7) 0 0 / z) (c .before .before .before .before .before .width .ensures), gathering-room S (c .before .before .loop .inv) (omega (arith, c .before .loop-test .taken, c .before .before .before .row-count .ensures)))))
+list-row-requires c κs = let R = the-rows (c .before .before .before .before .before .before .before) in let S = asked (c .before .before .before .before .before .before .before) in (c .before .before .before .before .before .before .before .pre .0, ((gathering-arranged S (c .before .before .loop .inv), gathering-sorted S (c .before .before .loop .inv), omega (arith, c .before .before .before .before .before .before .before .pre .1 .0 .2, gathering-length S (c .before .before .loop .inv)), c .before .before .before .before .before .before .before .pre .1 .0 .3), ((c .before .before .before .before .before .before .before .pre .1 .1 .0 .0, rows-hash R (c .before .before .before .before .before .width .ensures) (c .before .before .before .before .row-hashes .ensures .0) (c .before .before .loop .r) (omega (arith, c .before .loop-test .taken, c .before .before .before .row-count .ensures)), ap (λ (z : ℕ). getD (c .before .before .before .before .before .before .before .args .t7) 0 0 / z) (c .before .before .before .before .before .width .ensures), gathering-room S (c .before .before .loop .inv) (omega (arith, c .before .loop-test .taken, c .before .before .before .row-count .ensures))), gathering-runs S (c .before .before .loop .inv))))
 
 loop-less : tie.Need-loop-less Inv-loop μ-loop
 loop-less c = omega arith
