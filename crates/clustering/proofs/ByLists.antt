@@ -3,20 +3,19 @@ use mathlib.Core.Path.{_≡_, refl, sym, ap, ap₂, _∙_, subst}
 use mathlib.Core.Logic.{inl}
 use mathlib.Core.Bool.{Bool, true, false, not}
 use mathlib.Core.List.{List, [], _∷_, _++_}
-use Prim.Native.Nat.{ℕ, _+_, _-_, _*_, _<_, _≤_}
+use Prim.Native.Nat.{ℕ, _+_, _*_, _<_, _≤_}
 use native.Mathlib.Omega.{arith}
 use native.Mathlib.Numerals.{add-one}
 use lib.Dec.{T, eqb}
 use lib.IntN.{ℤ}
 use lib.ListN.{length, drop, getD, replicate, drop-of-length-le}
 use lib.Seq.{drop-cons}
-use borrow.Rule.Slice.PartMut.{putMid}
-use Rattle.lists.specs.Lists.{numbers, In, nonzero}
+use Rattle.lists.specs.Lists.{In, nonzero}
 use Rattle.lists.specs.Words.{over, part, rest, Clear}
 use Rattle.lists.specs.ListLaws.{true-T, at-in, keep-same}
 use Rattle.lists.specs.WordLaws.{over-self, over-again, over-length, over-apart}
-use Rattle.lists.specs.PartLaws.{part-length, part-same, part-under, part-above, part-at, clear-after}
-use Rattle.lists.specs.LoopLaws.{rest-start, rest-step, rest-end}
+use Rattle.lists.specs.PartLaws.{part-length, part-same, part-under, part-above, part-at, get-above, clear-after}
+use Rattle.lists.specs.LoopLaws.{rest-step, rest-end}
 use Rattle.hyperparams.specs.declared.ValidParams.{ValidParams}
 use Rattle.counting_tree.specs.Geometry.{Geometry}
 use Rattle.counting_tree.specs.Ready.{geometryAt, Ready}
@@ -26,16 +25,17 @@ use Rattle.cells_grid.specs.Listing.{unmarked, laterOf, CellsSorted}
 use Rattle.cells_grid.specs.ListingLaws.{in-unmarked, later-sound, unmarked-later-length, unmarked-later-cleared, cells-sorted-over}
 use Rattle.core_cells.specs.Forest.{Grown}
 use Rattle.core_cells.specs.ForestLaws.{grown-over}
-use Rattle.partitions.specs.Leaders.{Falling, root, shorten}
-use Rattle.partitions.specs.LeaderLaws.{Stands, own-stands, shorten-stands, shorten-leads}
+use Rattle.partitions.specs.Leaders.{Falling, root}
+use Rattle.partitions.specs.LeaderLaws.{Stands, own-stands}
 use Rattle.partitions.specs.Trials.{byLowest}
 use Rattle.partitions.specs.TrialLaws.{Within}
 use Rattle.clustering.specs.Uniting.{pairAt, onePair, pairsWith}
 use Rattle.clustering.specs.UnitingLaws.{parts-pair, with-more, with-none, with-within, one-within}
-use Rattle.clustering.specs.UniteAll.{linkAt, meetAll, byOwnLeaders, unlike, meetLists}
+use Rattle.clustering.specs.UniteAll.{linkAt, meetAll, byOwnLeaders, unlike, pairsBy}
 use Rattle.clustering.specs.UniteAllLaws.{meet-append, all-stand}
+use Rattle.clustering.specs.Runs.{RunsIn}
+use Rattle.clustering.specs.RunsLaws.{runs-over, marked-runs}
 use Rattle.clustering.proofs.Held.{frames, few-cells, cell-count, is-cell, tree-held}
-use Rattle.clustering.proofs.Lent.{lent, lent-length, back}
 
 -- what pairs leave of the leaders p
 abbrev pub left : Geometry → List (ℕ × ℕ) → List ℕ → List ℕ
@@ -161,203 +161,170 @@ module _ {g : Geometry} {n k : ℕ} {w₀ w : List ℕ} {c m j : ℕ} (i : Listi
       let e : drop j given ≡ [] = drop-of-length-le given {i = j} (omega (arith, count)) in
       i .leading .still ∙ ap (over w₀ (6 * n)) (sym (i .goes ∙ ap (λ (xs : List ℕ). left g (pairsWith g c xs) (part w (6 * n) k)) e))
 
--- ---- the cells from c on, each with the cells of its list that have another leader
--- what the cells cs leave of the leaders p
-abbrev leftBy : (v : ValidParams) (n : ℕ) (ps : List ℤ) → List ℕ → List ℕ → List ℕ
-leftBy v n ps = meetLists (geometryAt v n ps) (linkAt (geometryAt v n ps)) (laterOf v n ps)
+-- ---- the cells from c up to `to`, each with the cells of its list that do not have its mark: w₀ are the words when the first of these, `from`, was taken
+-- the pairs of the cells cs
+abbrev rowsOf : (v : ValidParams) (n : ℕ) (ps : List ℤ) (w₀ : List ℕ) → List ℕ → List (ℕ × ℕ)
+rowsOf v n ps w₀ = pairsBy (geometryAt v n ps) (unlike w₀ (9 * n) (laterOf v n ps))
 
--- the pairs of c that are met from the leaders p, once its own is looked for
-abbrev rowOf : (v : ValidParams) (n : ℕ) (ps : List ℤ) → ℕ → List ℕ → List (ℕ × ℕ)
-rowOf v n ps c p = pairsWith (geometryAt v n ps) c (unlike p c (laterOf v n ps c))
-
-pub record Rows (v : ValidParams) (n : ℕ) (ps : List ℤ) (k : ℕ) (w₀ w : List ℕ) (c : ℕ) : Type 0 where
+pub record Rows (v : ValidParams) (n : ℕ) (ps : List ℤ) (k : ℕ) (w₀ w : List ℕ) (from to c : ℕ) : Type 0 where
   pub leading : Leading (geometryAt v n ps) n k w₀ w
   pub sorted : CellsSorted v n ps w
   pub clear : Clear w (15 * n) n
-  pub high : c ≤ k
-  pub goes : leftBy v n ps (numbers k) (part w₀ (6 * n) k) ≡ leftBy v n ps (rest k c) (part w (6 * n) k)
-
--- and with c's leader x looked for
-pub record Found (v : ValidParams) (n : ℕ) (ps : List ℤ) (k : ℕ) (w₀ w : List ℕ) (c x : ℕ) : Type 0 where
-  pub leading : Leading (geometryAt v n ps) n k w₀ w
-  pub sorted : CellsSorted v n ps w
-  pub clear : Clear w (15 * n) n
-  pub cell : c < k
-  pub leads : x ≡ getD (part w (6 * n) k) c 0
-  pub goes : leftBy v n ps (numbers k) (part w₀ (6 * n) k)
-      ≡ leftBy v n ps (rest k (c + 1)) (left (geometryAt v n ps) (rowOf v n ps c (part w (6 * n) k)) (part w (6 * n) k))
+  pub runs : RunsIn w n k
+  pub end : to ≤ k
+  pub goes : left (geometryAt v n ps) (rowsOf v n ps w₀ (rest to from)) (part w₀ (6 * n) k) ≡ left (geometryAt v n ps) (rowsOf v n ps w₀ (rest to c)) (part w (6 * n) k)
 
 module _ {ps : List ℤ} {v : ValidParams} {n : ℕ} (r : Ready ps v n) {k : ℕ} {w₀ : List ℕ} (gr : Grown (geometryAt v n ps) k w₀) where
   abbrev g : Geometry
   g = geometryAt v n ps
 
-  pub rows-start : CellsSorted v n ps w₀ → 16 * n ≤ length w₀ → Clear w₀ (15 * n) n → Falling (part w₀ (6 * n) k) → Rows v n ps k w₀ w₀ 0
-  rows-start H l z f = record {
+  pub rows-start : {from to : ℕ} → CellsSorted v n ps w₀ → 16 * n ≤ length w₀ → Clear w₀ (15 * n) n → Falling (part w₀ (6 * n) k) → to ≤ k → RunsIn w₀ n k → Rows v n ps k w₀ w₀ from to from
+  rows-start H l z f h e = record {
     leading = leading-start r gr l f;
     sorted = H;
     clear = z;
-    high = omega arith;
-    goes = ap (λ (cs : List ℕ). leftBy v n ps cs (part w₀ (6 * n) k)) (sym (rest-start k));
+    runs = e;
+    end = h;
+    goes = refl;
   }
 
-  module _ {w : List ℕ} {c : ℕ} (i : Rows v n ps k w₀ w c) where
-    abbrev led : Leading g n k w₀ w
-    led = i .leading
-
-    -- the leaders, and as they are lent
-    abbrev P : List ℕ
-    P = part w (6 * n) k
-
-    abbrev P-lent : List ℕ
-    P-lent = part w (6 * n) (6 * n + k - 6 * n)
-
-    pub rows-end : k ≤ c → w ≡ over w₀ (6 * n) (leftBy v n ps (numbers k) (part w₀ (6 * n) k))
-    unfolding meetLists
-    rows-end h = led .still ∙ ap (over w₀ (6 * n)) (sym (i .goes ∙ ap (λ (cs : List ℕ). leftBy v n ps cs P) (rest-end k c h)))
-
-    room : 7 * n ≤ length w
-    room = omega (arith, led .room, led .size)
-
-    module _ (h : c < k) where
-      pub can-find : Falling P-lent × (c < length P-lent)
-      can-find =
-          let l = lent-length w n k (led .few) room in
-          (subst Falling (sym (lent w n k (led .few) room)) (led .falling), omega arith)
-
-      split-row : leftBy v n ps (rest k c) P ≡ leftBy v n ps (rest k (c + 1)) (left g (rowOf v n ps c (shorten P c)) (shorten P c))
-      unfolding meetLists
-      split-row = ap (λ (cs : List ℕ). leftBy v n ps cs P) (rest-step k c h)
-
-      pub found : {q : List ℕ} → q ≡ shorten P-lent c → {x : ℕ} → x ≡ root P-lent c → Found v n ps k w₀ (putMid (6 * n) (6 * n + k - 6 * n) w q) c x
-      found {q} eq {x} ex =
-          let whole = lent w n k (led .few) room in
-          let is : q ≡ shorten P c = eq ∙ ap (λ (z : List ℕ). shorten z c) whole in
-          let s : Stands k (root P) q = subst (Stands k (root P)) (sym is) (shorten-stands (leaders-stand led) c h) in
-          let e = back w n k (led .few) room q (s .size) in
-          let now = leaders-now led s e ∙ is in
-          let low : 6 * n + length q ≤ 10 * n = omega (arith, s .size, led .few) in
-          record {
-            leading = leading-on led s e;
-            sorted = subst (CellsSorted v n ps) (sym e) (cells-sorted-over r (6 * n) q (omega (arith, room)) (inl low) (i .sorted));
-            clear = subst (λ (y : List ℕ). Clear y (15 * n) n) (sym e) (clear-after w (15 * n) n (6 * n) q (omega (arith, room)) (omega arith) (i .clear));
-            cell = h;
-            leads = ex
-                ∙ ap (λ (z : List ℕ). root z c) whole
-                ∙ sym (ap (λ (z : List ℕ). getD z c 0) now ∙ shorten-leads (led .falling) c (omega (arith, lead-length led)));
-            goes = i .goes ∙ split-row ∙ ap (λ (z : List ℕ). leftBy v n ps (rest k (c + 1)) (left g (rowOf v n ps c z) z)) (sym now);
-          }
-
-  -- ---- its leader x is looked for
-  module _ {w : List ℕ} {c x : ℕ} (i : Found v n ps k w₀ w c x) {a : Bool} (ea : a ≡ nonzero (getD w (5 * n + c) 0)) where
+  module _ {w : List ℕ} {from to c : ℕ} (i : Rows v n ps k w₀ w from to c) where
     abbrev L : Leading g n k w₀ w
     L = i .leading
 
-    tree : coreCell g (cellAt g c) ≡ a
-    tree = sym (ea ∙ tree-held r (L .grown) c (i .cell))
-
-    is-one : c < length (cells g)
-    is-one = is-cell r gr c (i .cell)
-
-    -- the leaders, the list of c, and the pairs to be met
+    -- the leaders, and the list of c
     abbrev p : List ℕ
     p = part w (6 * n) k
 
     abbrev all : List ℕ
     all = laterOf v n ps c
 
-    abbrev row : List (ℕ × ℕ)
-    row = rowOf v n ps c p
+    pub rows-end : to ≤ c → w ≡ over w₀ (6 * n) (left (geometryAt v n ps) (pairsBy (geometryAt v n ps) (unlike w₀ (9 * n) (laterOf v n ps)) (rest to from)) (part w₀ (6 * n) k))
+    unfolding pairsBy meetAll
+    rows-end h = L .still ∙ ap (over w₀ (6 * n)) (sym (i .goes ∙ ap (λ (cs : List ℕ). left g (rowsOf v n ps w₀ cs) p) (rest-end to c h)))
 
-    pub rows-skip : a ≡ false → Rows v n ps k w₀ w (c + 1)
-    unfolding meetAll
-    rows-skip f = record {
-      leading = L;
-      sorted = i .sorted;
-      clear = i .clear;
-      high = omega (arith, i .cell);
-      goes = i .goes ∙ ap (λ (xs : List (ℕ × ℕ)). leftBy v n ps (rest k (c + 1)) (left g xs p)) (with-none g c (unlike p c all) (tree ∙ f));
-    }
+    module _ (h : c < to) where
+      pub cell : c < k
+      cell = omega (arith, i .end)
 
-    -- ---- c has a tree
-    module _ (t : a ≡ true) where
-      pub can-list : Ready ps v n × Arranged g k w × CellsSorted v n ps w × (c < k) × (16 * n ≤ length w) × (6 * n + n ≤ 10 * n)
-      can-list = (r, L .grown .cored .cells, i .sorted, i .cell, omega (arith, L .room, L .size), omega arith)
+      pub mark-room : 9 * n + c < length w
+      mark-room = omega (arith, cell, L .few, L .room, L .size)
 
-      abbrev ds : List ℕ
-      ds = unmarked w (6 * n) x all
+      is-one : c < length (cells g)
+      is-one = is-cell r gr c cell
 
-      -- the cells of its list are below k, and with it pairs
-      in-all : (d : ℕ) → In d all → (d < k) × T (pairAt g c d)
-      in-all d j =
-          let z = later-sound r c is-one d j in
-          (omega (arith, z .0, cell-count r gr), parts-pair g c d (true-T (tree ∙ t)) (z .1) (z .2))
+      -- the marks are as they were
+      mark-still : (d : ℕ) → getD w (9 * n + d) 0 ≡ getD w₀ (9 * n + d) 0
+      mark-still d = ap (λ (z : List ℕ). getD z (9 * n + d) 0) (L .still) ∙ get-above w₀ (6 * n) (9 * n + d) p (omega (arith, lead-length L, L .few)) (omega (arith, L .room))
 
-      -- the list is made without the cells that have its leader
-      unlike-marked : ds ≡ unlike p c all
-      unfolding unmarked
-      unlike-marked =
-          keep-same (λ d. not (eqb (getD w (6 * n + d) 0) x)) (λ d. not (eqb (getD p d 0) (getD p c 0))) all
-          (λ d j. ap₂ (λ (y z : ℕ). not (eqb y z)) (sym (part-at w (6 * n) k d (in-all d j .0))) (i .leads))
+      -- the pairs of c
+      abbrev row : List (ℕ × ℕ)
+      row = pairsWith g c (unlike w₀ (9 * n) (laterOf v n ps) c)
 
-      in-ds : (d : ℕ) → In d ds → (d < k) × T (pairAt g c d)
-      in-ds d j = in-all d (in-unmarked w (6 * n) x d all j .0)
+      split-row : left g (rowsOf v n ps w₀ (rest to c)) p ≡ left g (rowsOf v n ps w₀ (rest to (c + 1))) (left g row p)
+      unfolding pairsBy
+      split-row = ap (λ (cs : List ℕ). left g (rowsOf v n ps w₀ cs) p) (rest-step to c h) ∙ meet-append byOwnLeaders (linkAt g) row (rowsOf v n ps w₀ (rest to (c + 1))) p
 
-      short : length ds ≤ n
-      short = omega (arith, unmarked-later-length r c is-one w (6 * n) x, few-cells r gr, cell-count r gr)
+      module _ {a : Bool} (ea : a ≡ nonzero (getD w (5 * n + c) 0)) where
+        tree : coreCell g (cellAt g c) ≡ a
+        tree = sym (ea ∙ tree-held r (L .grown) c cell)
 
-      -- ---- its list is written
-      module _ {m : ℕ} (em : m ≡ length ds) {w₁ : List ℕ} (e₁ : w₁ ≡ over w (15 * n) ds) where
-        size₁ : length w₁ ≡ length w
-        size₁ = ap length e₁ ∙ over-length w (15 * n) ds (omega (arith, short, L .room, L .size))
+        pub rows-skip : a ≡ false → Rows v n ps k w₀ w from to (c + 1)
+        unfolding meetAll
+        rows-skip f = record {
+          leading = L;
+          sorted = i .sorted;
+          clear = i .clear;
+          runs = i .runs;
+          end = i .end;
+          goes = i .goes ∙ split-row ∙ ap (λ (xs : List (ℕ × ℕ)). left g (rowsOf v n ps w₀ (rest to (c + 1))) (left g xs p)) (with-none g c (unlike w₀ (9 * n) (laterOf v n ps) c) (tree ∙ f));
+        }
 
-        leaders₁ : part w₁ (6 * n) k ≡ p
-        leaders₁ = ap (λ (z : List ℕ). part z (6 * n) k) e₁ ∙ part-under w (6 * n) k (15 * n) ds (omega (arith, L .few)) (omega (arith, L .room, L .size))
+        -- ---- c has a tree, and the mark x
+        module _ (t : a ≡ true) {x : ℕ} (ex : x ≡ getD w (9 * n + c) 0) where
+          pub can-list : Ready ps v n × Arranged g k w × CellsSorted v n ps w × (c < k) × (16 * n ≤ length w) × (9 * n + n ≤ 10 * n)
+          can-list = (r, L .grown .cored .cells, i .sorted, cell, omega (arith, L .room, L .size), omega arith)
 
-        list₁ : part w₁ (15 * n) m ≡ ds
-        list₁ = ap (λ (z : List ℕ). part z (15 * n) m) e₁ ∙ part-same w (15 * n) m ds (omega (arith, L .room, L .size)) (sym em)
+          -- the sorted cells that have its mark stand in runs
+          pub can-pass : (q j : ℕ) → q + j < k → getD w (9 * n + getD w (14 * n + q) 0) 0 ≡ x → j ≤ getD w (8 * n + q) 0 → getD w (9 * n + getD w (14 * n + (q + j)) 0) 0 ≡ x
+          can-pass = marked-runs w n k (omega (arith, L .few, L .room, L .size)) (i .runs) x
 
-        pub can-unite-list : (Ready ps v n × Grown g k w₁ × (c < k) × (m ≤ n)) × (((16 * n ≤ length w₁) × Falling (part w₁ (6 * n) k))
-            × ((d : ℕ) → In d (part w₁ (15 * n) m) → (d < k) × T (pairAt g c d)))
-        can-unite-list = (
-          (r, subst (Grown g k) (sym e₁) (grown-over (L .grown) (L .frames) (15 * n) ds (omega arith) (omega (arith, short)) (omega (arith, L .room, L .size))), i .cell, omega (arith, short)),
-          ((omega (arith, size₁, L .room, L .size), subst Falling (sym leaders₁) (L .falling)), λ d j. in-ds d (subst (In d) list₁ j)),
-        )
+          abbrev ds : List ℕ
+          ds = unmarked w (9 * n) x all
 
-        -- ---- its pairs are met
-        module _ {w₂ : List ℕ} (e₂ : w₂ ≡ over w₁ (6 * n) (left g (pairsWith g c (part w₁ (15 * n) m)) (part w₁ (6 * n) k))) where
-          abbrev after : List ℕ
-          after = left g row p
+          -- the cells of its list are below k, and with it pairs
+          in-all : (d : ℕ) → In d all → (d < k) × T (pairAt g c d)
+          in-all d j =
+              let z = later-sound r c is-one d j in
+              (omega (arith, z .0, cell-count r gr), parts-pair g c d (true-T (tree ∙ t)) (z .1) (z .2))
 
-          after-stand : Stands k (meetAll byLowest (linkAt g) row (root p)) after
-          after-stand = pairs-stand L row (with-within g c (unlike p c all) (i .cell) (λ d j. in-ds d (subst (In d) (sym unlike-marked) j) .0))
+          -- the list is made without the cells that have its mark
+          unlike-marked : ds ≡ unlike w₀ (9 * n) (laterOf v n ps) c
+          unfolding unmarked
+          unlike-marked =
+              keep-same (λ d. not (eqb (getD w (9 * n + d) 0) x)) (λ d. not (eqb (getD w₀ (9 * n + d) 0) (getD w₀ (9 * n + c) 0))) all
+              (λ d j. ap₂ (λ (y z : ℕ). not (eqb y z)) (mark-still d) (ex ∙ mark-still c))
 
-          -- the list stands above the leaders
-          second : w₂ ≡ over (over w (6 * n) after) (15 * n) ds
-          second =
-              e₂
-              ∙ ap₂ (λ (xs z : List ℕ). over w₁ (6 * n) (left g (pairsWith g c xs) z)) (list₁ ∙ unlike-marked) leaders₁
-              ∙ ap (λ (y : List ℕ). over y (6 * n) after) e₁
-              ∙ sym (over-apart w (6 * n) (15 * n) after ds (omega (arith, after-stand .size, L .few)) (omega (arith, short, L .room, L .size)))
+          in-ds : (d : ℕ) → In d ds → (d < k) × T (pairAt g c d)
+          in-ds d j = in-all d (in-unmarked w (9 * n) x d all j .0)
 
-          size-u : length (over w (6 * n) after) ≡ length w
-          size-u = over-length w (6 * n) after (omega (arith, after-stand .size, L .few, L .room, L .size))
+          short : length ds ≤ n
+          short = omega (arith, unmarked-later-length r c is-one w (9 * n) x, few-cells r gr, cell-count r gr)
 
-          pub can-clear : 15 * n + m ≤ length w₂
-          can-clear = omega (arith, ap length second, over-length (over w (6 * n) after) (15 * n) ds (omega (arith, size-u, short, L .room, L .size)), size-u, em, short, L .room, L .size)
+          -- ---- its list is written
+          module _ {m : ℕ} (em : m ≡ length ds) {w₁ : List ℕ} (e₁ : w₁ ≡ over w (15 * n) ds) where
+            size₁ : length w₁ ≡ length w
+            size₁ = ap length e₁ ∙ over-length w (15 * n) ds (omega (arith, short, L .room, L .size))
 
-          -- ---- and its list cleared
-          pub rows-on : {w₃ : List ℕ} → w₃ ≡ over w₂ (15 * n) (replicate m 0) → Rows v n ps k w₀ w₃ (c + 1)
-          rows-on {w₃} e₃ =
-              let fit : 6 * n ≤ length w = omega (arith, L .room, L .size) in
-              let z : Clear (over w (6 * n) after) (15 * n) n = clear-after w (15 * n) n (6 * n) after fit (omega (arith, after-stand .size, L .few)) (i .clear) in
-              let e : w₃ ≡ over w (6 * n) after =
-              e₃
-              ∙ ap₂ (λ (y : List ℕ) (b : ℕ). over y (15 * n) (replicate b 0)) second em
-              ∙ unmarked-later-cleared r c is-one w (6 * n) x (over w (6 * n) after) (omega (arith, size-u, L .room, L .size)) z in
-              record {
-                leading = leading-on L after-stand e;
-                sorted = subst (CellsSorted v n ps) (sym e) (cells-sorted-over r (6 * n) after fit (inl (omega (arith, after-stand .size, L .few))) (i .sorted));
-                clear = subst (λ (y : List ℕ). Clear y (15 * n) n) (sym e) z;
-                high = omega (arith, i .cell);
-                goes = i .goes ∙ ap (leftBy v n ps (rest k (c + 1))) (sym (leaders-now L after-stand e));
-              }
+            leaders₁ : part w₁ (6 * n) k ≡ p
+            leaders₁ = ap (λ (z : List ℕ). part z (6 * n) k) e₁ ∙ part-under w (6 * n) k (15 * n) ds (omega (arith, L .few)) (omega (arith, L .room, L .size))
+
+            list₁ : part w₁ (15 * n) m ≡ ds
+            list₁ = ap (λ (z : List ℕ). part z (15 * n) m) e₁ ∙ part-same w (15 * n) m ds (omega (arith, L .room, L .size)) (sym em)
+
+            pub can-unite-list : (Ready ps v n × Grown g k w₁ × (c < k) × (m ≤ n)) × (((16 * n ≤ length w₁) × Falling (part w₁ (6 * n) k))
+                × ((d : ℕ) → In d (part w₁ (15 * n) m) → (d < k) × T (pairAt g c d)))
+            can-unite-list = (
+              (r, subst (Grown g k) (sym e₁) (grown-over (L .grown) (L .frames) (15 * n) ds (omega arith) (omega (arith, short)) (omega (arith, L .room, L .size))), cell, omega (arith, short)),
+              ((omega (arith, size₁, L .room, L .size), subst Falling (sym leaders₁) (L .falling)), λ d j. in-ds d (subst (In d) list₁ j)),
+            )
+
+            -- ---- its pairs are met
+            module _ {w₂ : List ℕ} (e₂ : w₂ ≡ over w₁ (6 * n) (left g (pairsWith g c (part w₁ (15 * n) m)) (part w₁ (6 * n) k))) where
+              abbrev after : List ℕ
+              after = left g row p
+
+              after-stand : Stands k (meetAll byLowest (linkAt g) row (root p)) after
+              after-stand = pairs-stand L row (with-within g c (unlike w₀ (9 * n) (laterOf v n ps) c) cell (λ d j. in-ds d (subst (In d) (sym unlike-marked) j) .0))
+
+              -- the list stands above the leaders
+              second : w₂ ≡ over (over w (6 * n) after) (15 * n) ds
+              second =
+                  e₂
+                  ∙ ap₂ (λ (xs z : List ℕ). over w₁ (6 * n) (left g (pairsWith g c xs) z)) (list₁ ∙ unlike-marked) leaders₁
+                  ∙ ap (λ (y : List ℕ). over y (6 * n) after) e₁
+                  ∙ sym (over-apart w (6 * n) (15 * n) after ds (omega (arith, after-stand .size, L .few)) (omega (arith, short, L .room, L .size)))
+
+              size-u : length (over w (6 * n) after) ≡ length w
+              size-u = over-length w (6 * n) after (omega (arith, after-stand .size, L .few, L .room, L .size))
+
+              pub can-clear : 15 * n + m ≤ length w₂
+              can-clear = omega (arith, ap length second, over-length (over w (6 * n) after) (15 * n) ds (omega (arith, size-u, short, L .room, L .size)), size-u, em, short, L .room, L .size)
+
+              -- ---- and its list cleared
+              pub rows-on : {w₃ : List ℕ} → w₃ ≡ over w₂ (15 * n) (replicate m 0) → Rows v n ps k w₀ w₃ from to (c + 1)
+              rows-on {w₃} e₃ =
+                  let fit : 6 * n ≤ length w = omega (arith, L .room, L .size) in
+                  let z : Clear (over w (6 * n) after) (15 * n) n = clear-after w (15 * n) n (6 * n) after fit (omega (arith, after-stand .size, L .few)) (i .clear) in
+                  let e : w₃ ≡ over w (6 * n) after =
+                  e₃
+                  ∙ ap₂ (λ (y : List ℕ) (b : ℕ). over y (15 * n) (replicate b 0)) second em
+                  ∙ unmarked-later-cleared r c is-one w (9 * n) x (over w (6 * n) after) (omega (arith, size-u, L .room, L .size)) z in
+                  record {
+                    leading = leading-on L after-stand e;
+                    sorted = subst (CellsSorted v n ps) (sym e) (cells-sorted-over r (6 * n) after fit (inl (omega (arith, after-stand .size, L .few))) (i .sorted));
+                    clear = subst (λ (y : List ℕ). Clear y (15 * n) n) (sym e) z;
+                    runs = subst (λ (y : List ℕ). RunsIn y n k) (sym e) (runs-over w n k (6 * n) after fit (omega (arith, after-stand .size, L .few)) (i .runs));
+                    end = i .end;
+                    goes = i .goes ∙ split-row ∙ ap (left g (rowsOf v n ps w₀ (rest to (c + 1)))) (sym (leaders-now L after-stand e));
+                  }

@@ -8,6 +8,8 @@ pub mod ByLists
 pub mod Closing
 pub mod Pairs
 pub mod Flat
+pub mod Marking
+pub mod Stages
 pub mod Phases
 pub mod Numbered
 pub mod Searching

@@ -6,13 +6,13 @@ use Prim.Native.Nat.{ℕ, _+_, _-_, _*_, _≤_}
 use native.Mathlib.Nat.{mul-le-mul}
 use native.Mathlib.Omega.{arith}
 use lib.IntN.{ℤ}
-use lib.ListN.{length}
+use lib.ListN.{length, drop, replicate, length-take, length-replicate}
 use borrow.Rule.Slice.PartMut.{putMid}
 use Rattle.lists.specs.Lists.{numbers, In}
 use Rattle.lists.specs.Words.{over, part, column, Clear}
 use Rattle.lists.specs.ListLaws.{map-same, in-numbers, length-numbers}
-use Rattle.lists.specs.WordLaws.{over-again, over-length}
-use Rattle.lists.specs.PartLaws.{part-same, clear-after}
+use Rattle.lists.specs.WordLaws.{over-again, over-length, over-apart}
+use Rattle.lists.specs.PartLaws.{part-length, part-same, clear-after}
 use Rattle.hyperparams.specs.declared.ValidParams.{ValidParams}
 use Rattle.counting_tree.specs.Geometry.{Geometry}
 use Rattle.counting_tree.specs.Ready.{geometryAt, Ready}
@@ -28,7 +28,7 @@ use Rattle.partitions.specs.TrialLaws.{Within, Alike, alike}
 use Rattle.clustering.specs.declared.uniting.Progress.{Progress}
 use Rattle.clustering.specs.Uniting.{pairsOf, touchAt, progressBy, progressOf, uniting, lowestAt}
 use Rattle.clustering.specs.UnitingLaws.{in-pairs}
-use Rattle.clustering.specs.UniteAll.{linkAt, meetAll, byOwnLeaders, meetLists}
+use Rattle.clustering.specs.UniteAll.{linkAt, meetAll, byOwnLeaders, pairsBy}
 use Rattle.clustering.specs.UniteAllLaws.{all-stand, lists-stand, later-lists}
 use Rattle.clustering.specs.Close.{sortedCells, closePairs}
 use Rattle.clustering.specs.CloseLaws.{close-in}
@@ -46,7 +46,21 @@ module _ {ps : List ℤ} {v : ValidParams} {n : ℕ} (r : Ready ps v n) {k : ℕ
   pub few-leaders : length (part w (6 * n) (6 * n + k - 6 * n)) ≤ 65536
   few-leaders = omega (arith, lent-length w n k few l, few, r .few)
 
-  -- ---- at the end, from the leaders q of u: leaders s, which stand for sets with the lowest cells `low`
+  -- ---- at the end, from leaders that stand for sets with the lowest cells `low`: each cell its lowest
+  module _ (w₂ : List ℕ) (room₂ : 7 * n ≤ length w₂) {low : ℕ → ℕ} (st : Stands k low (part w₂ (6 * n) k)) where
+    falling-lent : Falling (part w₂ (6 * n) (6 * n + k - 6 * n))
+    falling-lent = subst Falling (sym (lent w₂ n k few room₂)) (st .falling)
+
+    lowest-laid : {f : List ℕ} → f ≡ column (root (part w₂ (6 * n) (6 * n + k - 6 * n))) (length (part w₂ (6 * n) (6 * n + k - 6 * n)))
+        → putMid (6 * n) (6 * n + k - 6 * n) w₂ f ≡ over w₂ (6 * n) (column low k)
+    lowest-laid {f} e =
+        let i : f ≡ column low k =
+        e
+        ∙ ap₂ (λ (p : List ℕ) (m : ℕ). column (root p) m) (lent w₂ n k few room₂) (lent-length w₂ n k few room₂)
+        ∙ map-same (root (part w₂ (6 * n) k)) low (numbers k) (λ c j. st .roots c (in-numbers k c j)) in
+        back w₂ n k few room₂ f (ap length i ∙ length-numbers low k) ∙ ap (over w₂ (6 * n)) i
+
+  -- ---- where leaders s are laid over the leaders q of u
   module _ {u : List ℕ} (q : List ℕ) (laid : u ≡ over w (6 * n) q) (size : length q ≡ k) {low : ℕ → ℕ} {s : List ℕ} (st : Stands k low s) {w₂ : List ℕ} (e₂ : w₂ ≡ over u (6 * n) s) where
     second : w₂ ≡ over w (6 * n) s
     second = e₂ ∙ ap (λ (z : List ℕ). over z (6 * n) s) laid ∙ over-again w (6 * n) q s (omega arith) (st .size ∙ sym size)
@@ -54,23 +68,17 @@ module _ {ps : List ℤ} {v : ValidParams} {n : ℕ} (r : Ready ps v n) {k : ℕ
     pub room-second : 7 * n ≤ length w₂
     room-second = omega (arith, ap length second, over-length w (6 * n) s (omega (arith, st .size, few)))
 
-    leaders-second : part w₂ (6 * n) (6 * n + k - 6 * n) ≡ s
-    leaders-second = lent w₂ n k few room-second ∙ ap (λ (z : List ℕ). part z (6 * n) k) second ∙ part-same w (6 * n) k s (omega arith) (st .size)
+    stand-second : Stands k low (part w₂ (6 * n) k)
+    stand-second = subst (Stands k low) (sym (ap (λ (z : List ℕ). part z (6 * n) k) second ∙ part-same w (6 * n) k s (omega arith) (st .size))) st
 
     pub falling-second : Falling (part w₂ (6 * n) (6 * n + k - 6 * n))
-    falling-second = subst Falling (sym leaders-second) (st .falling)
+    falling-second = falling-lent w₂ room-second stand-second
 
-    -- ---- each cell its lowest
     pub lowest-words : {f : List ℕ} → f ≡ column (root (part w₂ (6 * n) (6 * n + k - 6 * n))) (length (part w₂ (6 * n) (6 * n + k - 6 * n)))
         → putMid (6 * n) (6 * n + k - 6 * n) w₂ f ≡ over w (6 * n) (column low k)
-    lowest-words {f} e =
-        let i : f ≡ column low k =
-        e
-        ∙ ap₂ (λ (p : List ℕ) (m : ℕ). column (root p) m) leaders-second (ap length leaders-second ∙ st .size)
-        ∙ map-same (root s) low (numbers k) (λ c j. st .roots c (in-numbers k c j)) in
-        let j : length f ≡ k = ap length i ∙ length-numbers low k in
-        back w₂ n k few room-second f j
-        ∙ ap₂ (λ (y z : List ℕ). over y (6 * n) z) second i
+    lowest-words e =
+        lowest-laid w₂ room-second stand-second e
+        ∙ ap (λ (z : List ℕ). over z (6 * n) (column low k)) second
         ∙ over-again w (6 * n) s (column low k) (omega arith) (length-numbers low k ∙ sym (st .size))
 
   -- ---- each cell by itself
@@ -159,13 +167,6 @@ module _ {ps : List ℤ} {v : ValidParams} {n : ℕ} (r : Ready ps v n) {k : ℕ
         leaders-close : part u (6 * n) k ≡ C
         leaders-close = ap (λ (z : List ℕ). part z (6 * n) k) close-laid ∙ part-same w (6 * n) k C (omega arith) close-size
 
-        met-stand : Stands k (lowestAt g (n * n)) (meetLists g (linkAt g) (laterOf v n ps) (numbers k) (part u (6 * n) k))
-        met-stand =
-            let l : length (cells g) ≤ n = omega (arith, few, cell-count r gr) in
-            subst (λ (p : List ℕ). Stands k (lowestAt g (n * n)) (meetLists g (linkAt g) (laterOf v n ps) (numbers k) p)) (sym leaders-close)
-            (subst (λ (m : ℕ). Stands m (lowestAt g (n * n)) (meetLists g (linkAt g) (laterOf v n ps) (numbers m) (meetAll byOwnLeaders (linkAt g) close (column (λ c. c) m)))) (sym (cell-count r gr))
-            (lists-stand g (laterOf v n ps) (later-lists r) (lawful r gr) (n * n) (mul-le-mul l l) close close-some))
-
         pub can-unite-lists : (Ready ps v n × Grown g k u × CellsSorted v n ps u) × ((16 * n ≤ length u) × Clear u (15 * n) n × Falling (part u (6 * n) k))
         can-unite-lists = (
           (
@@ -180,14 +181,67 @@ module _ {ps : List ℤ} {v : ValidParams} {n : ℕ} (r : Ready ps v n) {k : ℕ
           ),
         )
 
-        -- ---- all pairs are met
-        module _ {w₂ : List ℕ} (e₂ : w₂ ≡ over u (6 * n) (meetLists (geometryAt v n ps) (linkAt (geometryAt v n ps)) (laterOf v n ps) (numbers k) (part u (6 * n) k))) where
+        -- ---- all pairs are met: of the other words those from 8n up to 10n have changed
+        module _ {w₂ : List ℕ} (stand : (low : ℕ → ℕ) → Stands k low (part u (6 * n) k)
+            → Stands k (meetAll byLowest (linkAt (geometryAt v n ps)) (pairsBy (geometryAt v n ps) (laterOf v n ps) (numbers k)) low) (part w₂ (6 * n) k))
+            (e₂ : w₂ ≡ over (over u (6 * n) (part w₂ (6 * n) k)) (8 * n) (part w₂ (8 * n) (2 * n))) where
+          -- the leaders, and the other words
+          abbrev P : List ℕ
+          P = part w₂ (6 * n) k
+
+          abbrev Z : List ℕ
+          Z = part w₂ (8 * n) (2 * n)
+
+          met-stand : Stands k (lowestAt g (n * n)) P
+          met-stand =
+              let l : length (cells g) ≤ n = omega (arith, few, cell-count r gr) in
+              let before : ℕ → ℕ = meetAll byLowest (linkAt g) close (λ c. c) in
+              subst (λ (m : ℕ). Stands m (lowestAt g (n * n)) P) (sym (cell-count r gr))
+              (lists-stand g (laterOf v n ps) (later-lists r) (lawful r gr) (n * n) (mul-le-mul l l) close close-some
+              (subst (λ (m : ℕ). Stands m (meetAll byLowest (linkAt g) (pairsBy g (laterOf v n ps) (numbers m)) before) P) (cell-count r gr)
+              (stand before (subst (Stands k before) (sym leaders-close) close-stand))))
+
+          size-p : length (over u (6 * n) P) ≡ length u
+          size-p = over-length u (6 * n) P (omega (arith, met-stand .size, few, same-close))
+
+          short : length Z ≤ 2 * n
+          short = omega (arith, length-take (2 * n) (drop (8 * n) w₂))
+
+          same-met : length w₂ ≡ length w
+          same-met = ap length e₂ ∙ over-length (over u (6 * n) P) (8 * n) Z (omega (arith, short, size-p, same-close)) ∙ size-p ∙ same-close
+
           pub room-met : 7 * n ≤ length w₂
-          room-met = room-second C close-laid close-size met-stand e₂
+          room-met = omega (arith, same-met)
 
           pub falling-met : Falling (part w₂ (6 * n) (6 * n + k - 6 * n))
-          falling-met = falling-second C close-laid close-size met-stand e₂
+          falling-met = falling-lent w₂ room-met met-stand
 
-          pub lowest-met : {f : List ℕ} → f ≡ column (root (part w₂ (6 * n) (6 * n + k - 6 * n))) (length (part w₂ (6 * n) (6 * n + k - 6 * n)))
-              → putMid (6 * n) (6 * n + k - 6 * n) w₂ f ≡ over w (6 * n) (column (lowestAt (geometryAt v n ps) (n * n)) k)
-          lowest-met = lowest-words C close-laid close-size met-stand e₂
+          -- ---- each cell its lowest
+          module _ {f : List ℕ} (ef : f ≡ column (root (part w₂ (6 * n) (6 * n + k - 6 * n))) (length (part w₂ (6 * n) (6 * n + k - 6 * n)))) where
+            abbrev F : List ℕ
+            F = column (lowestAt g (n * n)) k
+
+            F-length : length F ≡ k
+            F-length = length-numbers (lowestAt g (n * n)) k
+
+            Z-length : length Z ≡ 2 * n
+            Z-length = part-length w₂ (8 * n) (2 * n) (omega (arith, same-met))
+
+            size-w : (q : List ℕ) → length q ≡ k → length (over w (6 * n) q) ≡ length w
+            size-w q e = over-length w (6 * n) q (omega (arith, few))
+
+            laid-met : putMid (6 * n) (6 * n + k - 6 * n) w₂ f ≡ over (over w (6 * n) F) (8 * n) Z
+            laid-met =
+                lowest-laid w₂ room-met met-stand ef
+                ∙ ap (λ (z : List ℕ). over z (6 * n) F)
+                (e₂ ∙ ap (λ (z : List ℕ). over z (8 * n) Z) (ap (λ (z : List ℕ). over z (6 * n) P) close-laid ∙ over-again w (6 * n) C P (omega arith) (met-stand .size ∙ sym close-size)))
+                ∙ sym (over-apart (over w (6 * n) P) (6 * n) (8 * n) F Z (omega (arith, F-length, few)) (omega (arith, Z-length, size-w P (met-stand .size))))
+                ∙ ap (λ (z : List ℕ). over z (8 * n) Z) (over-again w (6 * n) P F (omega arith) (F-length ∙ sym (met-stand .size)))
+
+            -- ---- and the other words cleared
+            pub lowest-met : {w₄ : List ℕ} → w₄ ≡ over (putMid (6 * n) (6 * n + k - 6 * n) w₂ f) (8 * n) (replicate (2 * n) 0)
+                → w₄ ≡ over (over w (6 * n) (column (lowestAt (geometryAt v n ps) (n * n)) k)) (8 * n) (replicate (2 * n) 0)
+            lowest-met e =
+                e
+                ∙ ap (λ (z : List ℕ). over z (8 * n) (replicate (2 * n) 0)) laid-met
+                ∙ over-again (over w (6 * n) F) (8 * n) Z (replicate (2 * n) 0) (omega (arith, size-w F F-length)) (length-replicate {A = ℕ} (2 * n) 0 ∙ sym Z-length)

@@ -1,16 +1,17 @@
 -- Sorting the cells, uniting, numbering, labelling and clearing, one after the other: what the words are after each.
 use mathlib.Core.Path.{_≡_, sym, ap, _∙_, subst}
 use mathlib.Core.Bool.{Bool}
-use mathlib.Core.List.{List, []}
+use mathlib.Core.List.{List, [], _++_}
 use Prim.Native.Nat.{ℕ, _+_, _*_, _<_, _≤_}
 use native.Mathlib.Nat.{mul-le-mul}
 use native.Mathlib.Omega.{arith}
 use lib.IntN.{ℤ}
-use lib.ListN.{length, replicate}
+use lib.ListN.{length, replicate, length-append, length-replicate}
 use Rattle.lists.specs.Lists.{numbers, howMany}
 use Rattle.lists.specs.Words.{over, part, column, Clear}
 use Rattle.lists.specs.ListLaws.{map-same, in-numbers, length-numbers}
-use Rattle.lists.specs.PartLaws.{part-same, holds-at}
+use Rattle.lists.specs.WordLaws.{over-again, over-length, over-next, over-apart}
+use Rattle.lists.specs.PartLaws.{part-same, part-under, holds-at}
 use Rattle.hyperparams.specs.Params.{maxFrames}
 use Rattle.hyperparams.specs.declared.ValidParams.{ValidParams}
 use Rattle.counting_tree.specs.Geometry.{Geometry}
@@ -56,16 +57,32 @@ module _ {ps : List ℤ} {v : ValidParams} {n : ℕ} (r : Ready ps v n) {k : ℕ
     search₀ = subst (CanSearch ps v n k) (sym sorted₀) (search-start r gr l cl)
 
     -- ---- united
-    module _ {w₁ : List ℕ} (e₁ : w₁ ≡ over w₀ (6 * n) (column low k)) where
+    module _ {w₁ : List ℕ} (e₁ : w₁ ≡ over (over w₀ (6 * n) (column low k)) (8 * n) (replicate (2 * n) 0)) where
+      -- the leaders, and then the words that were used meanwhile
+      abbrev led₁ : List ℕ
+      led₁ = over w₀ (6 * n) (column low k)
+
+      abbrev zeros : List ℕ
+      zeros = replicate (2 * n) 0
+
+      zeros-length : length zeros ≡ 2 * n
+      zeros-length = length-replicate {A = ℕ} (2 * n) 0
+
+      search-led : CanSearch ps v n k led₁
+      search-led = search-over r (6 * n) (column low k) (omega arith) (omega (arith, length-numbers low k, few)) search₀
+
       search₁ : CanSearch ps v n k w₁
-      search₁ = subst (CanSearch ps v n k) (sym e₁) (search-over r (6 * n) (column low k) (omega arith) (omega (arith, length-numbers low k, few)) search₀)
+      search₁ = subst (CanSearch ps v n k) (sym e₁) (search-over r (8 * n) zeros (omega arith) (omega (arith, zeros-length)) search-led)
 
       core-same : (c : ℕ) → c < k → coreIn w₁ n c ≡ isCore c
       core-same = tree-held r (search₁ .0)
 
       low-same : (c : ℕ) → c < k → lowestIn w₁ n c ≡ low c
       low-same c h =
-          holds-at w₁ (6 * n) k low c (ap (λ (z : List ℕ). part z (6 * n) k) e₁ ∙ part-same w₀ (6 * n) k (column low k) (omega (arith, search₀ .1 .2)) (length-numbers low k)) h
+          holds-at w₁ (6 * n) k low c
+          (ap (λ (z : List ℕ). part z (6 * n) k) e₁
+          ∙ part-under led₁ (6 * n) k (8 * n) zeros (omega (arith, few)) (omega (arith, search-led .1 .2))
+          ∙ part-same w₀ (6 * n) k (column low k) (omega (arith, search₀ .1 .2)) (length-numbers low k)) h
 
       pub can-number : (k ≤ n) × (n ≤ maxFrames) × (8 * n ≤ length w₁) × Led (coreIn w₁ n) (lowestIn w₁ n) k
       can-number = (few, r .few, omega (arith, search₁ .1 .2), led-same core-same low-same led)
@@ -105,9 +122,23 @@ module _ {ps : List ℤ} {v : ValidParams} {n : ℕ} (r : Ready ps v n) {k : ℕ
           abbrev all : List ℕ → List ℕ
           all z = over (over (over (over z (6 * n) (column low k)) (7 * n) numbered) (8 * n) labels) (9 * n) kinds
 
+          -- the labels and the kinds stand over the zeros
           all-laid : w₃ ≡ all w₀
           all-laid =
-              e₃ ∙ ap (λ (z : List ℕ). over (over z (8 * n) labels) (9 * n) kinds) (laid₂ ∙ ap (λ (z : List ℕ). over z (7 * n) numbered) e₁)
+              let room = search-led .1 .2 in
+              let x = over led₁ (7 * n) numbered in
+              let ln = length-numbers (clusterWord g) k in
+              let ll = length-numbers (labelBy g (λ c. place c (clusters g))) n in
+              let lk = length-numbers (kindOf g) n in
+              let lx : length x ≡ length led₁ = over-length led₁ (7 * n) numbered (omega (arith, few)) in
+              let one : (z : List ℕ) → 16 * n ≤ length z → over (over z (8 * n) labels) (9 * n) kinds ≡ over z (8 * n) (labels ++ kinds) =
+              λ z h. over-next z (8 * n) (9 * n) labels kinds (omega arith) (omega arith) in
+              e₃
+              ∙ ap (λ (z : List ℕ). over (over z (8 * n) labels) (9 * n) kinds)
+              (laid₂ ∙ ap (λ (z : List ℕ). over z (7 * n) numbered) e₁ ∙ sym (over-apart led₁ (7 * n) (8 * n) numbered zeros (omega (arith, few)) (omega (arith, zeros-length))))
+              ∙ one (over x (8 * n) zeros) (omega (arith, over-length x (8 * n) zeros (omega (arith, zeros-length))))
+              ∙ over-again x (8 * n) zeros (labels ++ kinds) (omega arith) (length-append labels kinds ∙ omega (arith, zeros-length))
+              ∙ sym (one x (omega arith))
 
           sorted-on : SortedOn ps v n (all w) w₃
           sorted-on =

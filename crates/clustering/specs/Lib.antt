@@ -9,6 +9,8 @@ pub mod Uniting
 pub mod UnitingLaws
 pub mod UniteAll
 pub mod UniteAllLaws
+pub mod Runs
+pub mod RunsLaws
 pub mod Turns
 pub mod TurnsLaws
 pub mod Close

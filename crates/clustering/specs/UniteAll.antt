@@ -1,12 +1,13 @@
 -- Uniting the linked core cells with no count of trials: the pairs in whatever order lists give them. Definitions only.
-use mathlib.Core.Bool.{Bool, not, _||_, cond}
+use mathlib.Core.Bool.{Bool, _||_, cond}
 use mathlib.Core.List.{List, [], _∷_, map}
-use Prim.Native.Nat.{ℕ}
+use Prim.Native.Nat.{ℕ, _+_}
 use lib.Dec.{eqb}
 use lib.ListN.{getD}
-use Rattle.lists.specs.Lists.{keep, concat}
+use Rattle.lists.specs.Lists.{concat}
 use Rattle.counting_tree.specs.Geometry.{Geometry}
-use Rattle.partitions.specs.Leaders.{root, shorten, shortenBoth, united}
+use Rattle.cells_grid.specs.Listing.{unmarked}
+use Rattle.partitions.specs.Leaders.{root, shortenBoth, united}
 use Rattle.partitions.specs.Trials.{Holding}
 use Rattle.clustering.specs.Uniting.{pairsWith, touchAt}
 
@@ -34,15 +35,9 @@ byOwnLeaders = record {
   join = λ p a b. united (shortenBoth p a b) a b;
 }
 
--- of the cells ds those whose leader is not c's
-abbrev pub unlike : List ℕ → ℕ → List ℕ → List ℕ
-unlike p c ds = keep (λ d. not (eqb (getD p d 0) (getD p c 0))) ds
-
--- each of the cells cs, once its leader is looked for, with the cells of its list whose leader is another's at that time
-unfoldable pub meetLists : Geometry → (touch : ℕ → ℕ → Bool) → (lists : ℕ → List ℕ) → List ℕ → List ℕ → List ℕ
-unfolding meetAll pairsWith
-meetLists g touch lists [] p = p
-meetLists g touch lists (c ∷ cs) p = let q = shorten p c in meetLists g touch lists cs (meetAll byOwnLeaders touch (pairsWith g c (unlike q c (lists c))) q)
+-- of a cell's list the cells whose word from `marks` on is not its own
+abbrev pub unlike : List ℕ → (marks : ℕ) → (lists : ℕ → List ℕ) → ℕ → List ℕ
+unlike w marks lists c = unmarked w marks (getD w (marks + c) 0) (lists c)
 
 -- the pairs of the cells cs, each with all cells of its list
 unfoldable pub pairsBy : Geometry → (ℕ → List ℕ) → List ℕ → List (ℕ × ℕ)

@@ -1,8 +1,8 @@
--- Laws of uniting with no count of trials: whatever the order of the pairs, each asked both ways at once and met from one side or from both, with some of them taken before, and without those of cells that have one leader, it leaves the sets that enough trials leave.
-use mathlib.Core.Path.{_≡_, refl, sym, ap, _∙_, subst}
+-- Laws of uniting with no count of trials: whatever the order of the pairs, each asked both ways at once and met from one side or from both, with some of them taken before, and without those of cells that are in one set at first, it leaves the sets that enough trials leave.
+use mathlib.Core.Path.{_≡_, refl, sym, ap, ap₂, _∙_, subst}
 use mathlib.Core.Logic.{_⊎_, inl, inr}
 use mathlib.Core.Bool.{Bool, true, false, not, _&&_, _||_, cond, and-comm}
-use mathlib.Core.List.{List, [], _∷_, _++_, map}
+use mathlib.Core.List.{List, [], _∷_, _++_, map, map-append}
 use Prim.Native.Nat.{ℕ, suc, _+_, _*_, _<_, _≤_, min}
 use native.Mathlib.Nat.{le-refl, le-antisymm}
 use native.Mathlib.Decide.{ℕ-discrete}
@@ -11,10 +11,9 @@ use lib.Dec.{T, eqb, eqb→eq}
 use lib.IntN.{ℤ}
 use lib.ListN.{length, getD}
 use borrow.Author.Tests.{lt-ltb, eq-eqb}
-use Rattle.lists.specs.Lists.{numbers, keep, In, Below}
-use Rattle.lists.specs.Words.{column}
+use Rattle.lists.specs.Lists.{numbers, keep, concat, In, Below}
 use Rattle.lists.specs.ListLaws.{true-T, not-turn, or-cases, or-one, or-two, keep-in, in-keep, keep-same, append-two, in-append, concat-in, in-concat, map-in, in-map, numbers-in, in-numbers}
-use Rattle.lists.specs.CountLaws.{keep-keep, keep-map}
+use Rattle.lists.specs.CountLaws.{keep-append, keep-keep, keep-map, concat-append}
 use Rattle.lists.specs.Chains.{Chain, alone, step}
 use Rattle.hyperparams.specs.declared.ValidParams.{ValidParams}
 use Rattle.counting_tree.specs.Geometry.{Geometry}
@@ -23,16 +22,16 @@ use Rattle.cells_grid.specs.Cells.{cells, listed, coreCell}
 use Rattle.cells_grid.specs.Lawful.{Lawful}
 use Rattle.cells_grid.specs.CellLaws.{listed-turn}
 use Rattle.cells_grid.specs.Arrangement.{cellAt}
-use Rattle.cells_grid.specs.Listing.{laterOf}
+use Rattle.cells_grid.specs.Listing.{unmarked, laterOf}
 use Rattle.cells_grid.specs.ListingLaws.{later-sound, later-complete}
-use Rattle.partitions.specs.Leaders.{root, shortenBoth}
-use Rattle.partitions.specs.LeaderLaws.{Stands, root-next, alone-stands, shorten-stands, both-stand, united-stands}
+use Rattle.partitions.specs.Leaders.{shortenBoth}
+use Rattle.partitions.specs.LeaderLaws.{Stands, both-stand, united-stands}
 use Rattle.partitions.specs.Trials.{Holding, Outcome, run, merged, byLowest}
 use Rattle.partitions.specs.TrialLaws.{run-finishes, run-keeps, Link, Within, joined-one, one-joined}
 use Rattle.clustering.specs.LeaderPartition.{Lowest, unite-lowest}
 use Rattle.clustering.specs.Uniting.{pairAt, pairsWith, pairsOf, touchAt, uniting, lowestAt}
 use Rattle.clustering.specs.UnitingLaws.{in-pairs, pairs-in, pair-parts, parts-pair, with-within, pairs-few}
-use Rattle.clustering.specs.UniteAll.{linkAt, meet, meetAll, byOwnLeaders, unlike, meetLists, pairsBy}
+use Rattle.clustering.specs.UniteAll.{linkAt, meet, meetAll, byOwnLeaders, unlike, pairsBy}
 
 -- ---- however sets are held
 module _ {S : Type 0} (h : Holding S) (touch : ℕ → ℕ → Bool) where
@@ -177,24 +176,42 @@ module _ (g : Geometry) where
       ∙ sym (keep-keep with-c (pairAt g c) ds))
       ∙ sym (keep-map f (λ d. (c, d)) (keep (pairAt g c) ds))
 
-  -- those that have c's leader are in its set, and can be left out
-  row-stands : (touch : ℕ → ℕ → Bool) (n c : ℕ) (ds : List ℕ) → c < n → Below n ds → {l : ℕ → ℕ} {p : List ℕ} → Stands n l p
-      → Stands n (meetAll byLowest touch (pairsWith g c ds) l) (meetAll byOwnLeaders touch (pairsWith g c (unlike p c ds)) p)
-  row-stands touch n c ds h below {l} {p} s =
-      subst (λ (qs : List (ℕ × ℕ)). Stands n (meetAll byLowest touch (pairsWith g c ds) l) (meetAll byOwnLeaders touch qs p)) (sym (with-some other c ds))
-      (fewer-stand touch n other (pairsWith g c ds) within one s)
+-- ---- cells with the cells of their lists
+module _ (g : Geometry) (lists : ℕ → List ℕ) where
+  -- the pairs of some cells, and then those of others
+  pub by-append : (cs ds : List ℕ) → pairsBy g lists (cs ++ ds) ≡ pairsBy g lists cs ++ pairsBy g lists ds
+  unfolding pairsBy
+  by-append cs ds = let row : ℕ → List (ℕ × ℕ) = λ c. pairsWith g c (lists c) in ap concat (map-append row cs ds) ∙ concat-append (map row cs) (map row ds)
+
+  by-some : (f : ℕ × ℕ → Bool) (cs : List ℕ) → pairsBy g (λ c. keep (λ d. f (c, d)) (lists c)) cs ≡ keep f (pairsBy g lists cs)
+  unfolding pairsBy
+  by-some f [] = refl
+  by-some f (c ∷ cs) = ap₂ (λ (ps qs : List (ℕ × ℕ)). ps ++ qs) (with-some g f c (lists c)) (by-some f cs) ∙ sym (keep-append f (pairsWith g c (lists c)) (pairsBy g lists cs))
+
+  pub by-within : {n : ℕ} → ((c : ℕ) → c < n → Below n (lists c)) → (cs : List ℕ) → Below n cs → Within n (pairsBy g lists cs)
+  unfolding pairsBy
+  by-within low [] below a b i = absurd i
+  by-within low (c ∷ cs) below a b i = elim (in-append (a, b) (pairsWith g c (lists c)) (pairsBy g lists cs) i) [
+    | inl j ↦ let h = below c (inl refl) in with-within g c (lists c) h (low c h) a b j
+    | inr j ↦ by-within low cs (λ d k. below d (inr k)) a b j
+  ]
+
+  -- where each cell's mark is the lowest cell of its set, cells of one mark are in one set, and need not be met
+  pub unlike-stand : (touch : ℕ → ℕ → Bool) (n : ℕ) (w : List ℕ) (marks : ℕ) (cs : List ℕ) → Within n (pairsBy g lists cs) → {l : ℕ → ℕ} {p : List ℕ}
+      → ((c : ℕ) → c < n → getD w (marks + c) 0 ≡ l c) → Stands n l p → Stands n (meetAll byLowest touch (pairsBy g lists cs) l) (meetAll byOwnLeaders touch (pairsBy g (unlike w marks lists) cs) p)
+  unfolding unmarked
+  unlike-stand touch n w marks cs within {l} {p} low s =
+      subst (λ (qs : List (ℕ × ℕ)). Stands n (meetAll byLowest touch (pairsBy g lists cs) l) (meetAll byOwnLeaders touch qs p)) (sym (by-some other cs))
+      (fewer-stand touch n other (pairsBy g lists cs) within one s)
     where
       other : ℕ × ℕ → Bool
-      other z = not (eqb (getD p (z .1) 0) (getD p (z .0) 0))
+      other z = not (eqb (getD w (marks + z .1) 0) (getD w (marks + z .0) 0))
 
-      within : Within n (pairsWith g c ds)
-      within = with-within g c ds h below
-
-      one : (a b : ℕ) → In (a, b) (pairsWith g c ds) → other (a, b) ≡ false → l a ≡ l b
+      one : (a b : ℕ) → In (a, b) (pairsBy g lists cs) → other (a, b) ≡ false → l a ≡ l b
       one a b i e =
-          let w = within a b i in
-          let q : getD p b 0 ≡ getD p a 0 = eqb→eq (getD p b 0) (getD p a 0) (true-T (not-turn (eqb (getD p b 0) (getD p a 0)) false e)) in
-          sym (s .roots a (w .0)) ∙ root-next (s .falling) a ∙ ap (root p) (sym q) ∙ sym (root-next (s .falling) b) ∙ s .roots b (w .1)
+          let h = within a b i in
+          let q = eqb→eq (getD w (marks + b) 0) (getD w (marks + a) 0) (true-T (not-turn (eqb (getD w (marks + b) 0) (getD w (marks + a) 0)) false e)) in
+          sym (low a (h .0)) ∙ sym q ∙ low b (h .1)
 
 -- ---- linked pairs
 module _ (g : Geometry) where
@@ -256,16 +273,6 @@ module _ (g : Geometry) (lists : ℕ → List ℕ) where
         let p = pair-parts g a b (z .2) in
         elim (exact .complete a b (z .0) (z .1) n (p .0) (p .1) (p .2)) [ inl j ↦ inl (list-in a b (z .0) j (z .2)) | inr j ↦ inr (list-in b a (z .1) j (pair-turn g L a b (z .2))) ]
 
-    -- leaders in memory go as sets do that meet all pairs
-    rows-stand : (touch : ℕ → ℕ → Bool) (cs : List ℕ) → Below cellCount cs → {l : ℕ → ℕ} {p : List ℕ} → Stands cellCount l p
-        → Stands cellCount (meetAll byLowest touch (pairsBy g lists cs) l) (meetLists g touch lists cs p)
-    unfolding pairsBy meetLists meetAll
-    rows-stand touch [] below s = s
-    rows-stand touch (c ∷ cs) below {l} {p} s =
-        let h = below c (inl refl) in
-        rw (meet-append byLowest touch (pairsWith g c (lists c)) (pairsBy g lists cs) l) (rows-stand touch cs (λ d i. below d (inr i))
-        (row-stands g touch cellCount c (lists c) h (λ d i. exact .sound c d h i .0) (shorten-stands s c h)))
-
     module _ (L : Lawful g) (trials : ℕ) (enough : cellCount * cellCount ≤ trials) (before : List (ℕ × ℕ)) (some : (a b : ℕ) → In (a, b) before → In (a, b) (pairsOf g)) where
       abbrev all : List (ℕ × ℕ)
       all = pairsBy g lists (numbers cellCount)
@@ -295,11 +302,8 @@ module _ (g : Geometry) (lists : ℕ → List ℕ) where
           ∙ any-order (linkAt g) (touchAt g) (before ++ all) (pairsOf g) to-links back-links x
           ∙ ap (λ (l : ℕ → ℕ). l x) (sym (run-meets byLowest (touchAt g) trials 0 (pairsOf g) (λ c. c) (omega (arith, pairs-few g))))
 
-      pub lists-stand : Stands cellCount (lowestAt g trials) (meetLists g (linkAt g) lists (numbers cellCount) (meetAll byOwnLeaders (linkAt g) before (column (λ c. c) cellCount)))
-      lists-stand =
-          let within : Within cellCount before = λ a b i. let z = in-pairs g a b (some a b i) in (z .0, z .1) in
-          let s = rows-stand (linkAt g) (numbers cellCount) (in-numbers cellCount) (all-stand (linkAt g) cellCount before within (alone-stands cellCount)) in
-          record { falling = s .falling; size = s .size; roots = λ c h. s .roots c h ∙ by-lowest c }
+      pub lists-stand : {p : List ℕ} → Stands cellCount (meetAll byLowest (linkAt g) all (meetAll byLowest (linkAt g) before (λ c. c))) p → Stands cellCount (lowestAt g trials) p
+      lists-stand s = record { falling = s .falling; size = s .size; roots = λ c h. s .roots c h ∙ by-lowest c }
 
 -- the cells that each cell finds from its own row on are such
 pub later-lists : {ps : List ℤ} {v : ValidParams} {n : ℕ} → Ready ps v n → Lists (geometryAt v n ps) (laterOf v n ps)

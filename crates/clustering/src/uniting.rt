@@ -8,25 +8,35 @@ use cells_grid::listing::LIST;
 use hyperparams::ValidParams;
 use lists::Word;
 ghost use mathlib.Core.Path.{_≡_};
-ghost use mathlib.Core.Bool.{true};
-ghost use Prim.Native.Nat.{ℕ, _+_, _*_, _<_, _≤_};
-ghost use lib.Dec.{T};
-ghost use lib.ListN.{length};
-ghost use Rattle.lists.specs.Lists.{numbers, In};
-ghost use Rattle.lists.specs.Words.{over, part, column, Clear};
+ghost use mathlib.Core.Bool.{true, cond};
+ghost use mathlib.Core.List.{map};
+ghost use Prim.Native.Nat.{ℕ, _+_, _*_, _/_, _<_, _≤_, min};
+ghost use lib.Dec.{T, eqb};
+ghost use lib.ListN.{length, replicate};
+ghost use Rattle.lists.specs.Lists.{numbers, In, Below};
+ghost use Rattle.lists.specs.Words.{over, part, column, rest, Clear};
+ghost use Rattle.hyperparams.specs.Params.{maxFrames};
 ghost use Rattle.counting_tree.specs.Ready.{geometryAt, Ready};
 ghost use Rattle.cells_grid.specs.Arrangement.{cellAt};
 ghost use Rattle.cells_grid.specs.Listing.{laterOf, CellsSorted};
 ghost use Rattle.core_cells.specs.Forest.{Grown};
 ghost use Rattle.partitions.specs.Leaders.{Falling, root};
-ghost use Rattle.partitions.specs.Trials.{run, byLeaders};
+ghost use Rattle.partitions.specs.LeaderLaws.{Stands};
+ghost use Rattle.partitions.specs.Trials.{run, byLowest, byLeaders};
 ghost use Rattle.clustering.specs.Clusters.{touches};
 ghost use Rattle.clustering.specs.Uniting.{pairAt, onePair, pairsWith, pairsOf, touchAt, stopped, progressOf, uniting, lowestAt};
-ghost use Rattle.clustering.specs.UniteAll.{linkAt, meetAll, byOwnLeaders, meetLists};
+ghost use Rattle.clustering.specs.UniteAll.{linkAt, meetAll, byOwnLeaders, unlike, pairsBy};
+ghost use Rattle.clustering.specs.Runs.{runsOf, sortedMarks, RunsIn};
 ghost use Rattle.clustering.specs.Close.{sortedCells, closeAt, closePair, closePairs};
 
 // With how many of those before it a sorted cell is taken, before any search.
 const BACK: usize = 8;
+
+// From 8n on, while cells are united: how many of the sorted cells right after each one have its mark.
+const RUNS: usize = 8;
+
+// From 9n on, while cells are united: the mark of each cell, the lowest cell of its set when the stage began.
+const MARKS: usize = 9;
 
 // What a trial left: the trials used, and whether the pair needs one more than there are.
 struct Tried {
@@ -275,28 +285,109 @@ fn unite_list(
     }
 }
 
-// Takes each core cell with the core cells that it finds from its own row on: so two cells that list each other are met once. (Most of these already have
-// the lowest cell of its set for their leader: so this is looked for first, whatever leader the cell itself has, and the list is made without them.)
-fn unite_lists(points: &[i16], v: ValidParams, n: usize, k: usize, work: &mut [Word])
-    requires { ⌜ Ready (now points) v n × Grown (geometryAt v n (now points)) k (now work) × CellsSorted v n (now points) (now work) ⌝ }
-    requires { ⌜ (16 * n ≤ length (now work)) × Clear (now work) (15 * n) n × Falling (part (now work) (6 * n) k) ⌝ }
-    ensures { λ _. ⌜ (let g = geometryAt v n (now (points .entry)) in now (work .exit) ≡ over (now (work .entry)) (6 * n)
-        (meetLists g (linkAt g) (laterOf v n (now (points .entry))) (numbers k) (part (now (work .entry)) (6 * n) k))) ⌝ }
+// How many cells from one place on have the mark `own`, where `run` of them have `mark`, and the next does not.
+fn run_with(own: usize, mark: usize, run: usize) -> usize
+    ensures { λ r. ⌜ r ≡ cond (eqb own mark) run 0 ⌝ }
+{
+    if own == mark {
+        return run;
+    }
+    0
+}
+
+// Writes from 8n on for each of the k sorted cells how many of those right after it have its mark.
+fn write_runs(work: &mut [Word], n: usize, k: usize)
+    requires { ⌜ (k ≤ n) × (n ≤ maxFrames) × (16 * n ≤ length (now work)) × Below n (part (now work) (14 * n) k) ⌝ }
+    ensures { λ _. ⌜ now (work .exit) ≡ over (now (work .entry)) (8 * n) (runsOf (sortedMarks (now (work .entry)) n k)) ⌝ }
+{
+    let mut p = k;
+    let mut mark = 0;
+    let mut run = 0;
+    while p > 0 {
+        p -= 1;
+        let c = lists::word(work, blocks::PLACES * n + p);
+        let own = lists::word(work, MARKS * n + c);
+        run = run_with(own, mark, run);
+        mark = own;
+        work[RUNS * n + p] = run as Word;
+        run += 1;
+    }
+}
+
+// Gives each cell the lowest cell of its set for its leader, and for its mark, and writes the runs of the marks.
+fn mark_cells(work: &mut [Word], n: usize, k: usize)
+    requires { ⌜ (k ≤ n) × (n ≤ maxFrames) × (16 * n ≤ length (now work)) × Below k (part (now work) (14 * n) k) × Falling (part (now work) (6 * n) k) ⌝ }
+    ensures { λ _. ⌜ (let low = root (part (now (work .entry)) (6 * n) k) in now (work .exit) ≡ over (over (over (now (work .entry))
+        (6 * n) (column low k))
+        (9 * n) (column low k))
+        (8 * n) (runsOf (map low (part (now (work .entry)) (14 * n) k)))) ⌝ }
 {
     let a = LEADERS * n;
     let e = a + k;
-    let mut c = 0;
-    while c < k {
+    flatten(&mut work[a..e]);
+    lists::copy_words(work, a, MARKS * n, k);
+    write_runs(work, n, k);
+}
+
+// Takes the cells from `from` up to `to`, each core cell with the core cells that it finds from its own row on and that do not have its mark.
+// (So two cells that list each other are met once, and those of one set, as most are, are passed a run at a time.)
+fn unite_stage(
+    points: &[i16],
+    v: ValidParams,
+    n: usize,
+    k: usize,
+    work: &mut [Word],
+    from: usize,
+    to: usize,
+)
+    requires { ⌜ Ready (now points) v n × Grown (geometryAt v n (now points)) k (now work) × CellsSorted v n (now points) (now work) ⌝ }
+    requires { ⌜ (16 * n ≤ length (now work)) × Clear (now work) (15 * n) n × Falling (part (now work) (6 * n) k) ⌝ }
+    requires { ⌜ (to ≤ k) × RunsIn (now work) n k ⌝ }
+    ensures { λ _. ⌜ (let g = geometryAt v n (now (points .entry)) in now (work .exit) ≡ over (now (work .entry)) (6 * n)
+        (meetAll byOwnLeaders (linkAt g) (pairsBy g (unlike (now (work .entry)) (9 * n) (laterOf v n (now (points .entry)))) (rest to from)) (part (now (work .entry)) (6 * n) k))) ⌝ }
+{
+    let mut c = from;
+    while c < to {
         let next = c + 1;
-        let leader = partitions::find(&mut work[a..e], c);
         if core_cells::is_core_cell(work, n, c) {
-            let m = cells_grid::listing::list_later(points, v, n, k, work, c, a, leader);
+            let mark = lists::word(work, MARKS * n + c);
+            let m = cells_grid::listing::list_later(points, v, n, k, work, c, MARKS * n, mark);
             unite_list(points, v, n, k, work, c, m);
             lists::clear_words(work, LIST * n, m);
             c = next;
         } else {
             c = next;
         }
+    }
+}
+
+// Where a stage that begins with cell `from` ends. (Each is longer than all before it: so there are few.)
+fn stage_end(from: usize, k: usize) -> usize
+    requires { ⌜ (from < k) × (k ≤ maxFrames) ⌝ }
+    ensures { λ r. ⌜ r ≡ min k (2 * from + k / 16 + 1) ⌝ }
+{
+    let end = 2 * from + k / 16 + 1;
+    if end < k {
+        return end;
+    }
+    k
+}
+
+// Takes each core cell with the core cells that it finds from its own row on, in stages. When a stage begins, the cells are marked with the lowest cells of their sets:
+// those of one mark are in one set, and need not be met.
+fn unite_lists(points: &[i16], v: ValidParams, n: usize, k: usize, work: &mut [Word])
+    requires { ⌜ Ready (now points) v n × Grown (geometryAt v n (now points)) k (now work) × CellsSorted v n (now points) (now work) ⌝ }
+    requires { ⌜ (16 * n ≤ length (now work)) × Clear (now work) (15 * n) n × Falling (part (now work) (6 * n) k) ⌝ }
+    ensures leaders { λ _. ⌜ (let g = geometryAt v n (now (points .entry)) in (low : ℕ → ℕ) → Stands k low (part (now (work .entry)) (6 * n) k)
+        → Stands k (meetAll byLowest (linkAt g) (pairsBy g (laterOf v n (now (points .entry))) (numbers k)) low) (part (now (work .exit)) (6 * n) k)) ⌝ }
+    ensures others { λ _. ⌜ now (work .exit) ≡ over (over (now (work .entry)) (6 * n) (part (now (work .exit)) (6 * n) k)) (8 * n) (part (now (work .exit)) (8 * n) (2 * n)) ⌝ }
+{
+    let mut from = 0;
+    while from < k {
+        mark_cells(work, n, k);
+        let to = stage_end(from, k);
+        unite_stage(points, v, n, k, work, from, to);
+        from = to;
     }
 }
 
@@ -373,11 +464,11 @@ fn unite_close_cells(points: &[i16], v: ValidParams, n: usize, k: usize, work: &
     }
 }
 
-// Writes the lowest cell of each cell's set, with all linked core cells united, in whatever order the lists give them.
+// Writes the lowest cell of each cell's set, with all linked core cells united, in whatever order the lists give them. The words from 8n up to 10n, used meanwhile, are 0 then.
 pub fn unite_listed_cells(points: &[i16], v: ValidParams, n: usize, k: usize, work: &mut [Word])
     requires { ⌜ Ready (now points) v n × Grown (geometryAt v n (now points)) k (now work) × CellsSorted v n (now points) (now work)
         × (16 * n ≤ length (now work)) × Clear (now work) (15 * n) n ⌝ }
-    ensures { λ _. ⌜ now (work .exit) ≡ over (now (work .entry)) (6 * n) (column (lowestAt (geometryAt v n (now (points .entry))) (n * n)) k) ⌝ }
+    ensures { λ _. ⌜ now (work .exit) ≡ over (over (now (work .entry)) (6 * n) (column (lowestAt (geometryAt v n (now (points .entry))) (n * n)) k)) (8 * n) (replicate (2 * n) 0) ⌝ }
 {
     let a = LEADERS * n;
     let e = a + k;
@@ -385,4 +476,5 @@ pub fn unite_listed_cells(points: &[i16], v: ValidParams, n: usize, k: usize, wo
     unite_close_cells(points, v, n, k, work);
     unite_lists(points, v, n, k, work);
     flatten(&mut work[a..e]);
+    lists::clear_words(work, RUNS * n, 2 * n);
 }

@@ -155,6 +155,32 @@ alone-stands n = record {
   roots = λ c h. root-own (column (λ c. c) n) c (at-numbers (λ c. c) 0 n c h);
 }
 
+-- each cell with the root of its set for its leader
+pub flat-stands : {n : ℕ} {l : ℕ → ℕ} {p : List ℕ} → Stands n l p → Stands n l (column (root p) n)
+flat-stands {n} {l} {p} s = record { falling = falling; size = length-numbers (root p) n; roots = roots }
+  where
+    f : Falling p
+    f = s .falling
+
+    q : List ℕ
+    q = column (root p) n
+
+    at : (c : ℕ) → c < n → getD q c 0 ≡ root p c
+    at c h = at-numbers (root p) 0 n c h
+
+    falling : Falling q
+    falling = record {
+      falls = λ c. elim (decLt c n) [
+        | yes h ↦ omega (arith, at c h, root-le f c)
+        | no m ↦ rw (List·getD-eq-default q 0 {n = c} (omega (arith, length-numbers (root p) n, m))) zero-le
+      ];
+    }
+
+    roots : (c : ℕ) → c < n → root q c ≡ l c
+    roots c h =
+        let own : getD q (root p c) 0 ≡ root p c = at (root p c) (omega (arith, root-le f c)) ∙ root-root f c in
+        root-next falling c ∙ ap (root q) (at c h) ∙ root-own q (root p c) own ∙ s .roots c h
+
 -- a find leaves leaders of the same sets
 pub shorten-stands : {n : ℕ} {l : ℕ → ℕ} {p : List ℕ} → Stands n l p → (c : ℕ) → c < n → Stands n l (shorten p c)
 shorten-stands {n} {l} {p} s = leader-induction (s .falling) (λ c. c < n → Stands n l (shorten p c))
@@ -172,16 +198,6 @@ shorten-stands {n} {l} {p} s = leader-induction (s .falling) (λ c. c < n → St
           size = length-set q c (root p c) ∙ t .size;
           roots = λ d m. lead-root (t .falling) c (root p c) h le own (λ r. r) i (λ d j o. refl) d ∙ t .roots d m;
         }
-
--- and its cell has the root for its leader
-pub shorten-leads : {p : List ℕ} → Falling p → (c : ℕ) → c < length p → getD (shorten p c) c 0 ≡ root p c
-shorten-leads {p} f c k = elim (ℕ-discrete (getD p c 0) c) [
-  | yes e ↦ rw (shorten-own p c e, root-own p c e) e
-  | no n ↦
-      let l : getD p c 0 < length p = omega (arith, f .falls c) in
-      let q : List ℕ = shorten p (getD p c 0) in
-      rw (shorten-next f c n) (getD-set-same q c (root p c) 0 (omega (arith, shorten-stands (own-stands f) (getD p c 0) l .size)))
-]
 
 pub both-stand : {n : ℕ} {l : ℕ → ℕ} {p : List ℕ} → Stands n l p → (a b : ℕ) → a < n → b < n → Stands n l (shortenBoth p a b)
 unfolding shortenBoth

@@ -51,20 +51,29 @@ part-flatten-start c = search needs
 part-flatten-end : tie.Need-part-flatten-end
 part-flatten-end c =
     let s = c .before .before .before .before .before .before .before .before .before .before .before .before .before .pre in
-    omega (arith, few-cells (s .0) (s .1), room-met (s .0) (s .1) (omega (arith, s .3)) (c .before .before .before .before .before .before .before .before .before .before .reset .ensures) (s .2) (s .3) (s .4) (c .before .before .before .before .before .before .unite-close-cells .ensures) (c .before .before .unite-lists .ensures))
+    omega (arith, few-cells (s .0) (s .1), room-met (s .0) (s .1) (omega (arith, s .3)) (c .before .before .before .before .before .before .before .before .before .before .reset .ensures) (s .2) (s .3) (s .4) (c .before .before .before .before .before .before .unite-close-cells .ensures) (c .before .before .unite-lists .ensures .0) (c .before .before .unite-lists .ensures .1))
 
 flatten-requires : tie.Need-flatten-requires
 flatten-requires c κs =
     let s = c .before .before .before .before .before .before .before .before .before .before .before .before .before .before .pre in
-    falling-met (s .0) (s .1) (omega (arith, s .3)) (c .before .before .before .before .before .before .before .before .before .before .before .reset .ensures) (s .2) (s .3) (s .4) (c .before .before .before .before .before .before .before .unite-close-cells .ensures) (c .before .before .before .unite-lists .ensures)
+    falling-met (s .0) (s .1) (omega (arith, s .3)) (c .before .before .before .before .before .before .before .before .before .before .before .reset .ensures) (s .2) (s .3) (s .4) (c .before .before .before .before .before .before .before .unite-close-cells .ensures) (c .before .before .before .unite-lists .ensures .0) (c .before .before .before .unite-lists .ensures .1)
+
+mul-clear-words : tie.Need-mul-clear-words
+mul-clear-words c = search needs
+
+mul-clear-words-2 : tie.Need-mul-clear-words-2
+mul-clear-words-2 c = search needs
+
+clear-words-requires : tie.Need-clear-words-requires
+clear-words-requires c κs = search needs
 
 same-length : tie.Need-same-length
 same-length c = search needs
 
 returns : tie.Need-returns
 returns c =
-    let s = c .before .before .before .before .before .before .before .before .before .before .before .before .before .before .before .before .before .pre in
-    lowest-met (s .0) (s .1) (omega (arith, s .3)) (c .before .before .before .before .before .before .before .before .before .before .before .before .before .before .reset .ensures) (s .2) (s .3) (s .4) (c .before .before .before .before .before .before .before .before .before .before .unite-close-cells .ensures) (c .before .before .before .before .before .before .unite-lists .ensures) (c .before .before .flatten .ensures)
+    let s = c .before .before .before .before .before .before .before .before .before .before .before .before .before .before .before .before .before .before .before .before .before .pre in
+    lowest-met (s .0) (s .1) (omega (arith, s .3)) (c .before .before .before .before .before .before .before .before .before .before .before .before .before .before .before .before .before .before .reset .ensures) (s .2) (s .3) (s .4) (c .before .before .before .before .before .before .before .before .before .before .before .before .before .before .unite-close-cells .ensures) (c .before .before .before .before .before .before .before .before .before .before .unite-lists .ensures .0) (c .before .before .before .before .before .before .before .before .before .before .unite-lists .ensures .1) (c .before .before .before .before .before .before .flatten .ensures) (c .before .before .clear-words .ensures)
 
 pub unite-listed-cells-spec : {M : Type 1} → statement M
 unite-listed-cells-spec =
@@ -84,5 +93,8 @@ unite-listed-cells-spec =
     part-flatten-start
     part-flatten-end
     flatten-requires
+    mul-clear-words
+    mul-clear-words-2
+    clear-words-requires
     same-length
     returns)
