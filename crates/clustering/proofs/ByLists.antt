@@ -21,7 +21,7 @@ use Rattle.counting_tree.specs.Geometry.{Geometry}
 use Rattle.counting_tree.specs.Ready.{geometryAt, Ready}
 use Rattle.cells_grid.specs.Cells.{cells, coreCell}
 use Rattle.cells_grid.specs.Arrangement.{cellAt, Arranged}
-use Rattle.cells_grid.specs.Listing.{unmarked, laterOf, CellsSorted}
+use Rattle.cells_grid.specs.Listing.{unmarked, laterOf, CellsSorted, MarkedRuns}
 use Rattle.cells_grid.specs.ListingLaws.{in-unmarked, later-sound, unmarked-later-length, unmarked-later-cleared, cells-sorted-over}
 use Rattle.core_cells.specs.Forest.{Grown}
 use Rattle.core_cells.specs.ForestLaws.{grown-over}
@@ -242,12 +242,9 @@ module _ {ps : List ℤ} {v : ValidParams} {n : ℕ} (r : Ready ps v n) {k : ℕ
 
         -- ---- c has a tree, and the mark x
         module _ (t : a ≡ true) {x : ℕ} (ex : x ≡ getD w (9 * n + c) 0) where
-          pub can-list : Ready ps v n × Arranged g k w × CellsSorted v n ps w × (c < k) × (16 * n ≤ length w) × (9 * n + n ≤ 10 * n)
-          can-list = (r, L .grown .cored .cells, i .sorted, cell, omega (arith, L .room, L .size), omega arith)
-
           -- the sorted cells that have its mark stand in runs
-          pub can-pass : (q j : ℕ) → q + j < k → getD w (9 * n + getD w (14 * n + q) 0) 0 ≡ x → j ≤ getD w (8 * n + q) 0 → getD w (9 * n + getD w (14 * n + (q + j)) 0) 0 ≡ x
-          can-pass = marked-runs w n k (omega (arith, L .few, L .room, L .size)) (i .runs) x
+          pub can-list : (Ready ps v n × Arranged g k w × CellsSorted v n ps w × (c < k) × (16 * n ≤ length w) × (9 * n + n ≤ 10 * n)) × MarkedRuns w n k (9 * n) x
+          can-list = ((r, L .grown .cored .cells, i .sorted, cell, omega (arith, L .room, L .size), omega arith), marked-runs w n k (omega (arith, L .few, L .room, L .size)) (i .runs) x)
 
           abbrev ds : List ℕ
           ds = unmarked w (9 * n) x all

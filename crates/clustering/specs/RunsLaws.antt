@@ -11,6 +11,7 @@ use Rattle.lists.specs.Lists.{Below}
 use Rattle.lists.specs.Words.{over, part, column}
 use Rattle.lists.specs.ListLaws.{true-T, map-same, at-map}
 use Rattle.lists.specs.PartLaws.{part-length, part-above, part-at, get-above, holds-at}
+use Rattle.cells_grid.specs.Listing.{MarkedRuns}
 use Rattle.clustering.specs.Runs.{leading, runsOf, sortedMarks, RunsIn}
 
 pub runs-length : (xs : List ℕ) → length (runsOf xs) ≡ length xs
@@ -65,8 +66,7 @@ module _ (w : List ℕ) (n k : ℕ) where
         ∙ ap (λ (c : ℕ). getD w (9 * n + c) 0) (part-at w (14 * n) k p h)
 
     -- a cell with the mark is followed by as many with it as its run says
-    pub marked-runs : RunsIn w n k → (mark p j : ℕ) → p + j < k → getD w (9 * n + getD w (14 * n + p) 0) 0 ≡ mark → j ≤ getD w (8 * n + p) 0
-        → getD w (9 * n + getD w (14 * n + (p + j)) 0) 0 ≡ mark
+    pub marked-runs : RunsIn w n k → (mark : ℕ) → MarkedRuns w n k (9 * n) mark
     marked-runs e mark p j h m l =
         let low : p < k = omega arith in
         let run : getD w (8 * n + p) 0 ≡ getD (runsOf (sortedMarks w n k)) p 0 = sym (part-at w (8 * n) k p low) ∙ ap (λ (z : List ℕ). getD z p 0) e in

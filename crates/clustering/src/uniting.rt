@@ -5,6 +5,7 @@ use crate::linking::is_linked;
 use cells_grid::PLACES;
 use cells_grid::STARTS;
 use cells_grid::listing::LIST;
+use cells_grid::listing::RUNS;
 use hyperparams::ValidParams;
 use lists::Word;
 ghost use mathlib.Core.Path.{_≡_};
@@ -31,9 +32,6 @@ ghost use Rattle.clustering.specs.Close.{sortedCells, closeAt, closePair
 
 // With how many of those before it a sorted cell is taken, before any search.
 const BACK: usize = 8;
-
-// From 8n on, while cells are united: how many of the sorted cells right after each one have its mark.
-const RUNS: usize = 8;
 
 // From 9n on, while cells are united: the mark of each cell, the lowest cell of its set when the stage began.
 const MARKS: usize = 9;
