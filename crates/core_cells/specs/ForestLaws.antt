@@ -187,6 +187,12 @@ module _ (g : Geometry) where
           ([], rw (e, append-nil))
     ]
 
+    -- a larger number leaves no more nodes
+    pub nodes-fewer : (more : ℕ) → few ≤ more → (c : ℕ) → nodesTo g more c ≤ nodesTo g few c
+    unfolding nodesTo
+    nodes-fewer more h zero = zero-le
+    nodes-fewer more h (suc c) = omega (arith, nodes-fewer more h c, size-fewer more h c)
+
     -- at most a node for each frame of these cells and level
     nodes-start : (c : ℕ) → c ≤ length (cells g) → nodesTo g few c ≤ startAt g c * (g .levels + 1)
     unfolding nodesTo
@@ -194,12 +200,6 @@ module _ (g : Geometry) where
     nodes-start (suc c) h =
         let e : startAt g (suc c) ≡ startAt g c + length (members g (cellAt g c)) = ap (startAt g) (sym (add-one c)) ∙ start-next g c h in
         rw e (omega (arith, nodes-start c (omega arith), size-fits c))
-
-    -- a larger number leaves no more nodes
-    pub nodes-fewer : (more : ℕ) → few ≤ more → (c : ℕ) → nodesTo g more c ≤ nodesTo g few c
-    unfolding nodesTo
-    nodes-fewer more h zero = zero-le
-    nodes-fewer more h (suc c) = omega (arith, nodes-fewer more h c, size-fewer more h c)
 
     pub nodes-fit : Lawful g → (c : ℕ) → c ≤ length (cells g) → nodesTo g few c ≤ g .frames * (g .levels + 1)
     nodes-fit L c h = omega (arith, nodes-start c h, mul-le-mul-right (g .levels + 1) (start-le g L c h))
