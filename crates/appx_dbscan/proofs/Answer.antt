@@ -35,24 +35,30 @@ module _ {ps : List ℤ} {v : ValidParams} {n : ℕ} (r : Ready ps v n) (w : Lis
   clear₁ = rw e₁ (made-clear w (10 * n) (14 * n) (omega arith))
 
   -- w₂ are the words where all phases are done
-  module _ {w₂ : List ℕ} (e₂ : w₂ ≡ filled g n w₁) where
+  module _ {w₂ : List ℕ} (z : (few : ℕ) × (w₂ ≡ filled g n few w₁)) where
+    abbrev few : ℕ
+    few = z .0
+
+    e₂ : w₂ ≡ filled g n few w₁
+    e₂ = z .1
+
     pub low₂ : Below 3 (part w₂ (9 * n) n)
-    low₂ = rw e₂ (filled-low r w₁ room₁)
+    low₂ = rw e₂ (filled-low r w₁ room₁ few)
 
     pub labels₂ : part w₂ (8 * n) n ≡ transformOf g .labels
     unfolding transformOf
-    labels₂ = ap (λ (x : List ℕ). part x (8 * n) n) e₂ ∙ filled-labels r w₁ room₁ ∙ ap (column (labelBy g (λ c. place c (clusters g)))) (sym (at-frames v n ps))
+    labels₂ = ap (λ (x : List ℕ). part x (8 * n) n) e₂ ∙ filled-labels r w₁ room₁ few ∙ ap (column (labelBy g (λ c. place c (clusters g)))) (sym (at-frames v n ps))
 
     pub kinds₂ : part w₂ (9 * n) n ≡ transformOf g .kinds
     unfolding transformOf
-    kinds₂ = ap (λ (x : List ℕ). part x (9 * n) n) e₂ ∙ filled-kinds r w₁ room₁ ∙ ap (column (kindOf g)) (sym (at-frames v n ps))
+    kinds₂ = ap (λ (x : List ℕ). part x (9 * n) n) e₂ ∙ filled-kinds r w₁ room₁ few ∙ ap (column (kindOf g)) (sym (at-frames v n ps))
 
     pub cores₂ : howMany (λ i. eqb (getD w₂ (4 * n + i) 0) 1) (numbers n) ≡ transformOf g .coreCount
     unfolding transformOf
-    cores₂ = ap (λ (x : List ℕ). howMany (λ (i : ℕ). eqb (getD x (4 * n + i) 0) 1) (numbers n)) e₂ ∙ filled-cores r w₁ room₁ ∙ ap (λ (f : ℕ). howMany (core g) (numbers f)) (sym (at-frames v n ps))
+    cores₂ = ap (λ (x : List ℕ). howMany (λ (i : ℕ). eqb (getD x (4 * n + i) 0) 1) (numbers n)) e₂ ∙ filled-cores r w₁ room₁ few ∙ ap (λ (f : ℕ). howMany (core g) (numbers f)) (sym (at-frames v n ps))
 
     pub cleared₂ : {m : ℕ} → m ≡ workWords n (v .s) → over w₂ 0 (replicate m 0) ≡ over w 0 (replicate (workWords n (v .s)) 0)
-    cleared₂ e = rw e (within-cleared (within-join within₁ (rw e₂ (filled-within r w₁ room₁))))
+    cleared₂ e = rw e (within-cleared (within-join within₁ (rw e₂ (filled-within r w₁ room₁ few))))
 
 -- the number of clusters
 pub clusters-are : (g : Geometry) → length (clusters g) ≡ transformOf g .clusterCount

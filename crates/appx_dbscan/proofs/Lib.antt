@@ -1,3 +1,4 @@
+pub mod Trees
 pub mod Phases
 pub mod Answer
 pub mod Call

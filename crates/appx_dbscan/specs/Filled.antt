@@ -7,19 +7,18 @@ use Rattle.counting_tree.specs.Geometry.{Geometry}
 use Rattle.cells_grid.specs.Cells.{cells}
 use Rattle.cells_grid.specs.Arrangement.{coreBit}
 use Rattle.cells_grid.specs.Places.{populated}
-use Rattle.core_cells.specs.Forest.{pathLimit, treeWord, forestTo}
+use Rattle.core_cells.specs.Forest.{treeWord, forestTo}
 use Rattle.clustering.specs.Clusters.{clusters, place, labelBy, kindOf}
 use Rattle.clustering.specs.Uniting.{lowestAt}
 use Rattle.clustering.specs.Numbering.{clusterWord}
 
--- n frames
-module _ (g : Geometry) (n : ℕ) where
+-- n frames. A cell with more core frames than `few` has a tree: the number is free, since nothing that is copied out depends on it.
+module _ (g : Geometry) (n few : ℕ) where
   -- the words w with what `populate`, `label_points` and `build_trees` write
   unfoldable pub treed : List ℕ → List ℕ
   treed w =
       let k = length (cells g) in
-      let limit = pathLimit (g .levels) k in
-      over (over (over (populated g w) (4 * n) (column (coreBit g) n)) (5 * n) (column (treeWord g limit) k)) (16 * n) (forestTo g limit k)
+      over (over (over (populated g w) (4 * n) (column (coreBit g) n)) (5 * n) (column (treeWord g few) k)) (16 * n) (forestTo g few k)
 
   -- and what `label` writes
   unfoldable pub filled : List ℕ → List ℕ

@@ -7,17 +7,19 @@ use hyperparams::Refusal;
 use hyperparams::ValidParams;
 use lists::Word;
 ghost use mathlib.Core.Path.{_≡_};
-ghost use Prim.Native.Nat.{_+_, _*_, _≤_};
+ghost use Prim.Native.Nat.{ℕ, _+_, _*_, _≤_};
 ghost use lib.Dec.{eqb};
 ghost use lib.ListN.{length, getD, replicate};
 ghost use Rattle.lists.specs.Lists.{numbers, howMany, Below};
-ghost use Rattle.lists.specs.Words.{over, part, Clear};
+ghost use Rattle.lists.specs.Words.{over, part, column, Clear};
 ghost use Rattle.hyperparams.specs.Params.{workWords};
 ghost use Rattle.hyperparams.specs.declared.ValidParams.{ValidParams};
 ghost use Rattle.hyperparams.specs.declared.Checked.the-variants.{Valid};
 ghost use Rattle.counting_tree.specs.Frames.{framesOf};
 ghost use Rattle.counting_tree.specs.Geometry.{short};
 ghost use Rattle.counting_tree.specs.Ready.{geometryAt, Ready};
+ghost use Rattle.cells_grid.specs.Arrangement.{Cored};
+ghost use Rattle.core_cells.specs.Forest.{treeWord, forestTo};
 ghost use Rattle.clustering.specs.Clusters.{clusters};
 ghost use Rattle.appx_dbscan.specs.Transform.{transformOf, outcomeOf, labelsLeft, kindsLeft, workLeft, checkedCall};
 ghost use Rattle.appx_dbscan.specs.Promise.{Promise};
@@ -40,16 +42,29 @@ struct Counts {
     core_frames: usize,
 }
 
+// Writes which cells are core cells, and the trees. (Which cells have one is free: no label depends on it. So are the words from 6n on
+// and those from 8n up to 10n, which `label` writes.)
+fn grow_trees(points: &[i16], v: ValidParams, n: usize, k: usize, work: &mut [Word])
+    requires { ⌜ Ready (now points) v n × Cored (geometryAt v n (now points)) k (now work) × (workWords n (v .s) ≤ length (now work)) × Clear (now work) (10 * n) (6 * n) ⌝ }
+    ensures { λ _. ⌜ ((few : ℕ) × (let g = geometryAt v n (now (points .entry)) in now (work .exit) ≡ over (over (over (over (now (work .entry))
+        (5 * n) (column (treeWord g few) k))
+        (16 * n) (forestTo g few k))
+        (6 * n) (part (now (work .exit)) (6 * n) k))
+        (8 * n) (part (now (work .exit)) (8 * n) (2 * n)))) ⌝ }
+{
+    let limit = core_cells::path_limit(v.s, n, k);
+    core_cells::build_trees(points, v, n, k, work, limit);
+}
+
 // Cells, core frames, trees and clusters, then the label and the kind of each frame, in the work words. Returns the number of clusters.
 fn fill_work(points: &[i16], v: ValidParams, n: usize, work: &mut [Word]) -> usize
     requires { ⌜ Ready (now points) v n × (workWords n (v .s) ≤ length (now work)) × Clear (now work) (10 * n) (14 * n) ⌝ }
     ensures { λ r. ⌜ r ≡ length (clusters (geometryAt v n (now (points .entry)))) ⌝ }
-    ensures { λ _. ⌜ now (work .exit) ≡ filled (geometryAt v n (now (points .entry))) n (now (work .entry)) ⌝ }
+    ensures { λ _. ⌜ ((few : ℕ) × (now (work .exit) ≡ filled (geometryAt v n (now (points .entry))) n few (now (work .entry)))) ⌝ }
 {
     let k = cells_grid::populate(points, v, n, work);
     cells_grid::label_points(points, v, n, k, work);
-    let limit = core_cells::path_limit(v.s, k);
-    core_cells::build_trees(points, v, n, k, work, limit);
+    grow_trees(points, v, n, k, work);
     clustering::label(points, v, n, k, work)
 }
 

@@ -27,9 +27,10 @@ pub record CanGather (w : List ℕ) (n from to at : ℕ) : Type 0 where
   pub room : at + n ≤ length w
   pub below : Below n (part w (3 * n + from) (to - from))
 
--- a run of k cells builds the trees of those with more core frames than this: none where there is one level below the root, or one cell
-unfoldable pub pathLimit : (levels k : ℕ) → ℕ
-pathLimit levels k = cond (leb levels 1 || leb k 1) maxFrames 64
+-- a run of n frames in k cells at first builds the trees of those with more core frames than this: none where there is one level below the root,
+-- or one cell, or sixteen frames or more to a cell
+unfoldable pub pathLimit : (levels n k : ℕ) → ℕ
+pathLimit levels n k = cond (leb levels 1 || (leb k 1 || leb (16 * k) n)) maxFrames 64
 
 module _ (g : Geometry) where
   -- the core frames of the cell with number c, and whether there are any

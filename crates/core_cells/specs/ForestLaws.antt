@@ -1,14 +1,14 @@
 -- Laws of the trees of the core cells: their nodes fit, what the words of one tree are, where a tree stands among all, and what words that hold them say.
 use mathlib.Core.Path.{_≡_, refl, sym, ap, subst, _∙_}
 use mathlib.Core.Logic.{inl, inr}
-use mathlib.Core.Bool.{Bool, true, false, cond}
+use mathlib.Core.Bool.{Bool, true, false, _||_, cond}
 use mathlib.Core.List.{List, [], _∷_, _++_, append-nil, append-assoc}
 use Prim.Native.Nat.{ℕ, zero, suc, _+_, _*_, _<_, _≤_, zero-le}
 use native.Mathlib.Omega.{arith}
-use native.Mathlib.Nat.{le-trans, mul-le-mul, mul-le-mul-right}
+use native.Mathlib.Nat.{le-refl, le-trans, mul-le-mul, mul-le-mul-right}
 use native.Mathlib.Numerals.{add-one}
 use borrow.Author.Tests.{lt-ltb, le-ltb, ltb-true}
-use lib.Dec.{eqb, ltb, ltb→lt, nltb→le}
+use lib.Dec.{eqb, leb, ltb, ltb→lt, nltb→le}
 use lib.ListN.{length, take, drop, getD, length-append, length-take, length-drop}
 use lib.Seq.{drop-at, take-at}
 use Rattle.lists.specs.Lists.{keep, Below, nonzero}
@@ -30,7 +30,16 @@ use Rattle.cells_grid.specs.Places.{endIn}
 use Rattle.cells_grid.specs.ArrangementLaws.{start-next, start-le, cells-le, cell-places, core-word, cored-over}
 use Rattle.tree_structure.specs.Encode.{size, encode, TreeAt, encode-length, size-le}
 use Rattle.tree_structure.specs.Work.{maxLevels, maxNodes}
-use Rattle.core_cells.specs.Forest.{coreAmong, treeFrames, isCore, isLarge, treeSize, treeWords, nodesTo, forestTo, treeWord, Grown}
+use Rattle.core_cells.specs.Forest.{coreAmong, pathLimit, treeFrames, isCore, isLarge, treeSize, treeWords, nodesTo, forestTo, treeWord, Grown}
+
+-- a run never takes a number below 64
+pub limit-least : (levels n k : ℕ) → 64 ≤ pathLimit levels n k
+unfolding pathLimit
+limit-least levels n k = go (leb levels 1 || (leb k 1 || leb (16 * k) n))
+  where
+    go : (b : Bool) → 64 ≤ cond b maxFrames 64
+    go true = omega arith
+    go false = omega arith
 
 -- ---- no frames, no count
 byBox-nil : (v : IntersectionType) → byBox v [] [] ≡ []
@@ -142,6 +151,15 @@ module _ (g : Geometry) where
       | inr f ↦ omega (arith, small-size c (nltb→le few (length (treeFrames g c)) f))
     ]
 
+    size-fewer : (more : ℕ) → few ≤ more → (c : ℕ) → treeSize g more c ≤ treeSize g few c
+    unfolding treeSize
+    size-fewer more h c = elim (T-or-not (isLarge g more c)) [
+      | inl t ↦
+          let l = ltb→lt more (length (treeFrames g c)) t in
+          rw (lt-ltb more (length (treeFrames g c)) l, lt-ltb few (length (treeFrames g c)) (omega arith)) (le-refl (size (g .same) (g .levels) 0 (treeFrames g c)))
+      | inr f ↦ rw (le-ltb more (length (treeFrames g c)) (nltb→le more (length (treeFrames g c)) f)) zero-le
+    ]
+
     -- ---- the trees of all cells
     pub forest-length : (c : ℕ) → length (forestTo g few c) ≡ 4 * nodesTo g few c
     unfolding forestTo nodesTo
@@ -168,6 +186,12 @@ module _ (g : Geometry) where
           let e : k ≡ c = omega (arith, nltb→le c k f) in
           ([], rw (e, append-nil))
     ]
+
+    -- a larger number leaves no more nodes
+    pub nodes-fewer : (more : ℕ) → few ≤ more → (c : ℕ) → nodesTo g more c ≤ nodesTo g few c
+    unfolding nodesTo
+    nodes-fewer more h zero = zero-le
+    nodes-fewer more h (suc c) = omega (arith, nodes-fewer more h c, size-fewer more h c)
 
     -- at most a node for each frame of these cells and level
     nodes-start : (c : ℕ) → c ≤ length (cells g) → nodesTo g few c ≤ startAt g c * (g .levels + 1)

@@ -47,7 +47,10 @@ const SCRATCH: usize = 12;
 const NODES: usize = 16;
 
 // A cell with at most so many core frames has no tree in a run: its frames' own paths are taken.
-const PATHS: usize = 64;
+pub const PATHS: usize = 64;
+
+// With so many frames or more to a cell, on average, no tree is built at first.
+const LARGE: usize = 16;
 
 // In a cell with at most so many frames these are asked before its root box, unless s is 0.
 const FEW: usize = 2;
@@ -119,14 +122,18 @@ fn build_tree(
 }
 
 // With more core frames than this a cell has a tree in a run, of k cells. None has where s is 0, since root boxes settle nearly everything then,
-// nor where there is one cell, since nothing is asked of it.
-pub fn path_limit(s: usize, k: usize) -> usize
-    ensures { λ r. ⌜ r ≡ pathLimit (levels s) k ⌝ }
+// nor where there is one cell, since nothing is asked of it, nor at first where cells have sixteen frames or more on average:
+// there trees are built only if they are asked.
+pub fn path_limit(s: usize, n: usize, k: usize) -> usize
+    ensures { λ r. ⌜ r ≡ pathLimit (levels s) n k ⌝ }
 {
     if s == 0 {
         return MAX_FRAMES;
     }
     if k <= 1 {
+        return MAX_FRAMES;
+    }
+    if k <= n / LARGE {
         return MAX_FRAMES;
     }
     PATHS

@@ -13,41 +13,37 @@ label-points-requires : tie.Need-label-points-requires
 label-points-requires c κs =
     let r = c .before .before .before .before .before .before .pre in
     let w = c .before .before .before .before .before .before .args .work .now in
-    (r .0, arranged₁ (r .0) w (r .1) (c .before .before .before .populate .ensures .0) (c .before .before .before .populate .ensures .1), search needs, clear₁ (r .0) w (r .1) (c .before .before .before .populate .ensures .0) (c .before .before .before .populate .ensures .1) (r .2))
+    let p = c .before .before .before .populate .ensures in
+    (r .0, arranged₁ (r .0) w (r .1) (p .0) (p .1), search needs, clear₁ (r .0) w (r .1) (p .0) (p .1) (r .2))
 
-path-limit-requires : tie.Need-path-limit-requires
-path-limit-requires c κs = search needs
-
-build-trees-requires : tie.Need-build-trees-requires
-build-trees-requires c κs =
-    let r = c .before .before .before .before .before .before .before .before .before .before .before .pre in
-    let w = c .before .before .before .before .before .before .before .before .before .before .before .args .work .now in
-    let p = c .before .before .before .before .before .before .before .before .populate .ensures in
-    let e₂ = c .before .before .before .before .label-points .ensures in
-    ((r .0, cored₂ (r .0) w (r .1) (p .0) (p .1) e₂), (search needs, clear₂ (r .0) w (r .1) (p .0) (p .1) e₂ (r .2)))
+grow-trees-requires : tie.Need-grow-trees-requires
+grow-trees-requires c κs =
+    let r = c .before .before .before .before .before .before .before .before .before .before .pre in
+    let w = c .before .before .before .before .before .before .before .before .before .before .args .work .now in
+    let p = c .before .before .before .before .before .before .before .populate .ensures in
+    let e₂ = c .before .before .before .label-points .ensures in
+    (r .0, cored₂ (r .0) w (r .1) (p .0) (p .1) e₂, search needs, clear₂ (r .0) w (r .1) (p .0) (p .1) e₂ (r .2))
 
 label-requires : tie.Need-label-requires
 label-requires c κs =
-    let r = c .before .before .before .before .before .before .before .before .before .before .before .before .before .before .before .pre in
-    let w = c .before .before .before .before .before .before .before .before .before .before .before .before .before .before .before .args .work .now in
-    let p = c .before .before .before .before .before .before .before .before .before .before .before .before .populate .ensures in
-    let e₂ = c .before .before .before .before .before .before .before .before .label-points .ensures in
-    let l = c .before .before .before .before .before .path-limit .ensures in
-    let e₃ = c .before .before .before .build-trees .ensures in
-    (r .0, grown₃ (r .0) w (r .1) (p .0) (p .1) e₂ l e₃, search needs, clear₃ (r .0) w (r .1) (p .0) (p .1) e₂ l e₃ (r .2))
+    let r = c .before .before .before .before .before .before .before .before .before .before .before .before .before .before .pre in
+    let w = c .before .before .before .before .before .before .before .before .before .before .before .before .before .before .args .work .now in
+    let p = c .before .before .before .before .before .before .before .before .before .before .before .populate .ensures in
+    let e₂ = c .before .before .before .before .before .before .before .label-points .ensures in
+    let f = c .before .before .before .grow-trees .ensures in
+    (r .0, grown₃ (r .0) w (r .1) (p .0) (p .1) e₂ (f .0) (f .1), search needs, clear₃ (r .0) w (r .1) (p .0) (p .1) e₂ (f .0) (f .1) (r .2))
 
 same-length : tie.Need-same-length
 same-length c = search needs
 
 returns : tie.Need-returns
 returns c =
-    let r = c .before .before .before .before .before .before .before .before .before .before .before .before .before .before .before .before .before .before .pre in
-    let w = c .before .before .before .before .before .before .before .before .before .before .before .before .before .before .before .before .before .before .args .work .now in
-    let p = c .before .before .before .before .before .before .before .before .before .before .before .before .before .before .before .populate .ensures in
-    let e₂ = c .before .before .before .before .before .before .before .before .before .before .before .label-points .ensures in
-    let l = c .before .before .before .before .before .before .before .before .path-limit .ensures in
-    let e₃ = c .before .before .before .before .before .before .build-trees .ensures in
-    (c .before .before .label .ensures .0, filled₄ (r .0) w (r .1) (p .0) (p .1) e₂ l e₃ (c .before .before .label .ensures .1))
+    let r = c .before .before .before .before .before .before .before .before .before .before .before .before .before .before .before .before .before .pre in
+    let w = c .before .before .before .before .before .before .before .before .before .before .before .before .before .before .before .before .before .args .work .now in
+    let p = c .before .before .before .before .before .before .before .before .before .before .before .before .before .before .populate .ensures in
+    let e₂ = c .before .before .before .before .before .before .before .before .before .before .label-points .ensures in
+    let f = c .before .before .before .before .before .before .grow-trees .ensures in
+    (c .before .before .label .ensures .0, (f .0, filled₄ (r .0) w (r .1) (p .0) (p .1) e₂ (f .0) (f .1) (c .before .before .label .ensures .1)))
 
 pub fill-work-spec : {M : Type 1} → statement M
 fill-work-spec =
@@ -55,8 +51,7 @@ fill-work-spec =
     (tie.spec
     populate-requires
     label-points-requires
-    path-limit-requires
-    build-trees-requires
+    grow-trees-requires
     label-requires
     same-length
     returns)
