@@ -19,7 +19,7 @@ ghost use Rattle.counting_tree.specs.Frames.{framesOf};
 ghost use Rattle.counting_tree.specs.Geometry.{short};
 ghost use Rattle.counting_tree.specs.Ready.{geometryAt, Ready};
 ghost use Rattle.cells_grid.specs.Arrangement.{Cored};
-ghost use Rattle.core_cells.specs.Forest.{treeWord, forestTo};
+ghost use Rattle.core_cells.specs.Forest.{treeWord, forestTo, Grown};
 ghost use Rattle.clustering.specs.Clusters.{clusters};
 ghost use Rattle.appx_dbscan.specs.Transform.{transformOf, outcomeOf, labelsLeft, kindsLeft, workLeft, checkedCall};
 ghost use Rattle.appx_dbscan.specs.Promise.{Promise};
@@ -42,8 +42,16 @@ struct Counts {
     core_frames: usize,
 }
 
-// Writes which cells are core cells, and the trees. (Which cells have one is free: no label depends on it. So are the words from 6n on
-// and those from 8n up to 10n, which `label` writes.)
+// Stands for `clustering::trees::wanted`.
+fn wanted_stand_in(points: &[i16], v: ValidParams, n: usize, k: usize, work: &mut [Word]) -> bool
+    requires { ⌜ Ready (now points) v n × Grown (geometryAt v n (now points)) k (now work) × (16 * n ≤ length (now work)) × Clear (now work) (10 * n) (6 * n) ⌝ }
+    ensures { λ _. ⌜ now (work .exit) ≡ over (over (now (work .entry)) (6 * n) (part (now (work .exit)) (6 * n) k)) (8 * n) (part (now (work .exit)) (8 * n) (2 * n)) ⌝ }
+{
+    false
+}
+
+// Writes which cells are core cells, and the trees that are asked. (Which cells have one is free: no label depends on it. So are the words
+// from 6n on and those from 8n up to 10n, which `label` writes.)
 fn grow_trees(points: &[i16], v: ValidParams, n: usize, k: usize, work: &mut [Word])
     requires { ⌜ Ready (now points) v n × Cored (geometryAt v n (now points)) k (now work) × (workWords n (v .s) ≤ length (now work)) × Clear (now work) (10 * n) (6 * n) ⌝ }
     ensures { λ _. ⌜ ((few : ℕ) × (let g = geometryAt v n (now (points .entry)) in now (work .exit) ≡ over (over (over (over (now (work .entry))
@@ -54,6 +62,9 @@ fn grow_trees(points: &[i16], v: ValidParams, n: usize, k: usize, work: &mut [Wo
 {
     let limit = core_cells::path_limit(v.s, n, k);
     core_cells::build_trees(points, v, n, k, work, limit);
+    if wanted_stand_in(points, v, n, k, work) {
+        core_cells::build_trees(points, v, n, k, work, core_cells::PATHS);
+    }
 }
 
 // Cells, core frames, trees and clusters, then the label and the kind of each frame, in the work words. Returns the number of clusters.
