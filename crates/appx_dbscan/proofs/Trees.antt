@@ -1,5 +1,5 @@
 -- The trees in the work words: what building them leaves there, where words from 6n on and from 8n up to 10n may have been written too.
-use mathlib.Core.Path.{_≡_, refl, sym, ap, ap₂, subst, _∙_}
+use mathlib.Core.Path.{_≡_, sym, ap, ap₂, subst, _∙_}
 use mathlib.Core.List.{List}
 use Prim.Native.Nat.{ℕ, _+_, _*_, _≤_}
 use native.Mathlib.Omega.{arith}
@@ -8,7 +8,7 @@ use lib.ListN.{length, drop, length-take}
 use Rattle.lists.specs.Words.{over, part, column, Clear}
 use Rattle.lists.specs.ListLaws.{length-numbers}
 use Rattle.lists.specs.PartLaws.{over-cover, part-under, part-above, clear-before, clear-after, clear-within}
-use Rattle.lists.specs.WordLaws.{over-length, over-apart, over-self}
+use Rattle.lists.specs.WordLaws.{over-length, over-apart}
 use Rattle.lists.specs.Within.{Within, within-self, within-over}
 use Rattle.hyperparams.specs.Params.{workWords}
 use Rattle.hyperparams.specs.declared.ValidParams.{ValidParams}
@@ -22,12 +22,6 @@ use Rattle.core_cells.specs.ForestLaws.{forest-length, nodes-fewer, nodes-fit, 
 
 pub part-short : (w : List ℕ) (a n : ℕ) → length (part w a n) ≤ n
 part-short w a n = omega (arith, length-take n (drop a w))
-
--- words laid where they stand
-pub unwritten : (w : List ℕ) (n k : ℕ) → k ≤ n → 10 * n ≤ length w → w ≡ over (over w (6 * n) (part w (6 * n) k)) (8 * n) (part w (8 * n) (2 * n))
-unwritten w n k l h =
-    sym (ap (λ (x : List ℕ). over x (8 * n) (part w (8 * n) (2 * n))) (over-self w (6 * n) k (part w (6 * n) k) refl (omega arith))
-    ∙ over-self w (8 * n) (2 * n) (part w (8 * n) (2 * n)) refl (omega arith))
 
 -- words laid from 5n and from 16n on, before and after those from 6n on and from 8n up to 10n: nothing is left of the first
 laid-again : (n : ℕ) (w us bs ps qs cs ds : List ℕ) → length us ≤ length cs → length cs ≤ n → length bs ≤ length ds → length ps ≤ n → length qs ≤ 2 * n → 16 * n + length ds ≤ length w

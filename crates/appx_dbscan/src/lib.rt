@@ -19,7 +19,7 @@ ghost use Rattle.counting_tree.specs.Frames.{framesOf};
 ghost use Rattle.counting_tree.specs.Geometry.{short};
 ghost use Rattle.counting_tree.specs.Ready.{geometryAt, Ready};
 ghost use Rattle.cells_grid.specs.Arrangement.{Cored};
-ghost use Rattle.core_cells.specs.Forest.{treeWord, forestTo, Grown};
+ghost use Rattle.core_cells.specs.Forest.{treeWord, forestTo};
 ghost use Rattle.clustering.specs.Clusters.{clusters};
 ghost use Rattle.appx_dbscan.specs.Transform.{transformOf, outcomeOf, labelsLeft, kindsLeft, workLeft, checkedCall};
 ghost use Rattle.appx_dbscan.specs.Promise.{Promise};
@@ -42,14 +42,6 @@ struct Counts {
     core_frames: usize,
 }
 
-// Stands for `clustering::trees::wanted`.
-fn wanted_stand_in(points: &[i16], v: ValidParams, n: usize, k: usize, work: &mut [Word]) -> bool
-    requires { ⌜ Ready (now points) v n × Grown (geometryAt v n (now points)) k (now work) × (16 * n ≤ length (now work)) × Clear (now work) (10 * n) (6 * n) ⌝ }
-    ensures { λ _. ⌜ now (work .exit) ≡ over (over (now (work .entry)) (6 * n) (part (now (work .exit)) (6 * n) k)) (8 * n) (part (now (work .exit)) (8 * n) (2 * n)) ⌝ }
-{
-    false
-}
-
 // Writes which cells are core cells, and the trees that are asked. (Which cells have one is free: no label depends on it. So are the words
 // from 6n on and those from 8n up to 10n, which `label` writes.)
 fn grow_trees(points: &[i16], v: ValidParams, n: usize, k: usize, work: &mut [Word])
@@ -62,7 +54,7 @@ fn grow_trees(points: &[i16], v: ValidParams, n: usize, k: usize, work: &mut [Wo
 {
     let limit = core_cells::path_limit(v.s, n, k);
     core_cells::build_trees(points, v, n, k, work, limit);
-    if wanted_stand_in(points, v, n, k, work) {
+    if clustering::trees::wanted(points, v, n, k, work) {
         core_cells::build_trees(points, v, n, k, work, core_cells::PATHS);
     }
 }

@@ -18,8 +18,8 @@ build-trees-requires c κs =
     let n = c .before .before .before .args .n in
     ((r .0, r .1), (r .2, clear-within (c .before .before .before .args .work .now) (10 * n) (6 * n) (10 * n) (3 * n) (r .3) (omega arith) (omega arith)))
 
-wanted-stand-in-requires : tie.Need-wanted-stand-in-requires
-wanted-stand-in-requires c κs =
+wanted-requires : tie.Need-wanted-requires
+wanted-requires c κs =
     let r = c .before .before .before .before .before .before .before .pre in
     let f = c .before .before .before .before .before .path-limit .result in
     let e₁ = c .before .before .before .build-trees .ensures in
@@ -29,7 +29,7 @@ build-trees-requires-2 : tie.Need-build-trees-requires-2
 build-trees-requires-2 c κs =
     let r = c .before .before .before .before .before .before .before .before .before .before .before .before .pre in
     let f = c .before .before .before .before .before .before .before .before .before .before .path-limit .result in
-    let e₂ = written (r .0) (r .1) (r .2) f (c .before .before .before .before .before .before .before .before .build-trees .ensures) (c .before .before .before .before .wanted-stand-in .ensures) in
+    let e₂ = written (r .0) (r .1) (r .2) f (c .before .before .before .before .before .before .before .before .build-trees .ensures) (c .before .before .before .before .wanted .ensures) in
     ((r .0, grew-grown (r .0) (r .1) (r .2) f e₂ .cored), (search needs, grew-scratch (r .0) (r .1) (r .2) f e₂ (r .3)))
 
 same-length : tie.Need-same-length
@@ -40,7 +40,7 @@ returns c =
     let r = c .before .before .before .before .before .before .before .before .before .before .before .before .before .before .before .pre in
     let st = c .before .before .before .before .before .before .before .before .before .before .before .before .before .before .before in
     let f = c .before .before .before .before .before .before .before .before .before .before .before .before .before .path-limit .result in
-    let e₂ = written (r .0) (r .1) (r .2) f (c .before .before .before .before .before .before .before .before .before .before .before .build-trees .ensures) (c .before .before .before .before .before .before .before .wanted-stand-in .ensures) in
+    let e₂ = written (r .0) (r .1) (r .2) f (c .before .before .before .before .before .before .before .before .before .before .before .build-trees .ensures) (c .before .before .before .before .before .before .before .wanted .ensures) in
     (64, rebuilt (r .0) (r .1) (r .2) f e₂ (omega (arith, c .before .before .before .before .before .before .before .before .before .before .before .before .before .path-limit .ensures, limit-least (levels (st .args .v .s)) (st .args .n) (st .args .k))) (c .before .before .build-trees2 .ensures))
 
 same-length-2 : tie.Need-same-length-2
@@ -50,7 +50,7 @@ returns-2 : tie.Need-returns-2
 returns-2 c =
     let r = c .before .before .before .before .before .before .before .before .before .before .before .pre in
     let f = c .before .before .before .before .before .before .before .before .before .path-limit .result in
-    (f, written (r .0) (r .1) (r .2) f (c .before .before .before .before .before .before .before .build-trees .ensures) (c .before .before .before .wanted-stand-in .ensures))
+    (f, written (r .0) (r .1) (r .2) f (c .before .before .before .before .before .before .before .build-trees .ensures) (c .before .before .before .wanted .ensures))
 
 pub grow-trees-spec : {M : Type 1} → statement M
 grow-trees-spec =
@@ -58,7 +58,7 @@ grow-trees-spec =
     (tie.spec
     path-limit-requires
     build-trees-requires
-    wanted-stand-in-requires
+    wanted-requires
     build-trees-requires-2
     same-length
     returns
