@@ -5,6 +5,7 @@ pub mod Lent
 pub mod Trying
 pub mod Meeting
 pub mod ByLists
+pub mod SoonUniting
 pub mod Closing
 pub mod Pairs
 pub mod Flat

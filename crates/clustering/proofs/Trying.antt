@@ -87,7 +87,7 @@ module _ {w : List ℕ} {n k c d : ℕ} (can : CanTry w n k c d) where
   abbrev pub put : List ℕ → List ℕ
   put = putMid (6 * n) (6 * n + k - 6 * n) w
 
-  own : Stands k (root p) p
+  pub own : Stands k (root p) p
   own = subst (λ (m : ℕ). Stands m (root p) p) (part-length w (6 * n) k (omega (arith, can .room, can .few))) (own-stands (can .falling))
 
   pub can-ask : Falling P × (c < length P) × (d < length P)

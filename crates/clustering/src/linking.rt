@@ -21,7 +21,7 @@ ghost use Rattle.clustering.specs.Turns.{askedAt, turnAt};
 const TURNS: usize = 8;
 
 // How many frames cell c has.
-fn size_of(work: &[Word], n: usize, k: usize, c: usize) -> usize
+pub fn size_of(work: &[Word], n: usize, k: usize, c: usize) -> usize
     requires { ⌜ (c < k) × (k ≤ n) × (3 * n ≤ length (now work)) × (getD (now work) (2 * n + c) 0 ≤ endIn (now work) n k c) ⌝ }
     ensures { λ r. ⌜ r ≡ endIn (now (work .entry)) n k c - getD (now (work .entry)) (2 * n + c) 0 ⌝ }
 {

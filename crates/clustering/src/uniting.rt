@@ -34,7 +34,7 @@ ghost use Rattle.clustering.specs.Close.{sortedCells, closeAt, closePair
 const BACK: usize = 8;
 
 // From 9n on, while cells are united: the mark of each cell, the lowest cell of its set when the stage began.
-const MARKS: usize = 9;
+pub const MARKS: usize = 9;
 
 // What a trial left: the trials used, and whether the pair needs one more than there are.
 struct Tried {

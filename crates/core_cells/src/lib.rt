@@ -381,7 +381,7 @@ fn settled_by_root(
 
 // What the core frames of cell c tell of the count of frame q in its tree: one nearer than the tolerance gives a count,
 // and there is none where all are out of reach.
-fn settled_by_frames(
+pub fn settled_by_frames(
     points: &[i16],
     v: ValidParams,
     n: usize,

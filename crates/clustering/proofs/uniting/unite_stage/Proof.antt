@@ -2,7 +2,7 @@
 use Prim.Native.Nat.{_-_}
 use native.Mathlib.Omega.{arith}
 use Rattle.clustering.proofs.Held.{tree-room}
-use Rattle.clustering.proofs.ByLists.{Rows, rows-start, cell, mark-room, can-list, can-unite-list, can-clear, rows-on, rows-skip, rows-end}
+use Rattle.clustering.proofs.ByLists.{Rows, rows-start, row-cell, mark-room, can-list, can-unite-list, can-clear-row, rows-on, rows-skip, rows-end}
 use Rattle.clustering.proofs.uniting.unite_stage.Statement.{statement}
 use Rattle.clustering.proofs.uniting.unite_stage.Tie as tie
 
@@ -19,31 +19,31 @@ add-next : tie.Need-add-next Inv-loop μ-loop
 add-next c = omega arith
 
 is-core-cell-requires : tie.Need-is-core-cell-requires Inv-loop μ-loop
-is-core-cell-requires c κs = tree-room (c .before .before .before .before .pre .0 .0) (c .before .before .loop .inv .leading .grown) _ (cell (c .before .before .before .before .pre .0 .0) (c .before .before .before .before .pre .0 .1) (c .before .before .loop .inv) (c .before .loop-test .taken))
+is-core-cell-requires c κs = tree-room (c .before .before .before .before .pre .0 .0) (c .before .before .loop .inv .standing .leading .grown) _ (row-cell (c .before .before .before .before .pre .0 .0) (c .before .before .before .before .pre .0 .1) (c .before .before .loop .inv) (c .before .loop-test .taken))
 
 mul-word : tie.Need-mul-word Inv-loop μ-loop
 mul-word c = omega arith
 
 add-word : tie.Need-add-word Inv-loop μ-loop
-add-word c = omega (arith, mark-room (c .before .before .before .before .before .before .before .pre .0 .0) (c .before .before .before .before .before .before .before .pre .0 .1) (c .before .before .before .before .before .loop .inv) (c .before .before .before .before .loop-test .taken))
+add-word c = omega (arith, mark-room (c .before .before .before .before .before .before .before .pre .0 .0) (c .before .before .before .before .before .before .before .pre .0 .1) (c .before .before .before .before .before .loop .inv .standing) (row-cell (c .before .before .before .before .before .before .before .pre .0 .0) (c .before .before .before .before .before .before .before .pre .0 .1) (c .before .before .before .before .before .loop .inv) (c .before .before .before .before .loop-test .taken)))
 
 word-requires : tie.Need-word-requires Inv-loop μ-loop
-word-requires c κs = mark-room (c .before .before .before .before .before .before .before .pre .0 .0) (c .before .before .before .before .before .before .before .pre .0 .1) (c .before .before .before .before .before .loop .inv) (c .before .before .before .before .loop-test .taken)
+word-requires c κs = mark-room (c .before .before .before .before .before .before .before .pre .0 .0) (c .before .before .before .before .before .before .before .pre .0 .1) (c .before .before .before .before .before .loop .inv .standing) (row-cell (c .before .before .before .before .before .before .before .pre .0 .0) (c .before .before .before .before .before .before .before .pre .0 .1) (c .before .before .before .before .before .loop .inv) (c .before .before .before .before .loop-test .taken))
 
 mul-list-later : tie.Need-mul-list-later Inv-loop μ-loop
 mul-list-later c = omega arith
 
 list-later-requires : tie.Need-list-later-requires Inv-loop μ-loop
-list-later-requires c κs = can-list (c .before .before .before .before .before .before .before .before .before .pre .0 .0) (c .before .before .before .before .before .before .before .before .before .pre .0 .1) (c .before .before .before .before .before .before .before .loop .inv) (c .before .before .before .before .before .before .loop-test .taken) (c .before .before .before .before .is-core-cell .ensures) (c .before .before .before .if1 .taken) (c .before .word .ensures)
+list-later-requires c κs = can-list (c .before .before .before .before .before .before .before .before .before .pre .0 .0) (c .before .before .before .before .before .before .before .before .before .pre .0 .1) (c .before .before .before .before .before .before .before .loop .inv .standing) (row-cell (c .before .before .before .before .before .before .before .before .before .pre .0 .0) (c .before .before .before .before .before .before .before .before .before .pre .0 .1) (c .before .before .before .before .before .before .before .loop .inv) (c .before .before .before .before .before .before .loop-test .taken)) (c .before .before .before .before .is-core-cell .ensures) (c .before .before .before .if1 .taken) (c .before .word .ensures)
 
 unite-list-requires : tie.Need-unite-list-requires Inv-loop μ-loop
-unite-list-requires c κs = can-unite-list (c .before .before .before .before .before .before .before .before .before .before .before .before .before .pre .0 .0) (c .before .before .before .before .before .before .before .before .before .before .before .before .before .pre .0 .1) (c .before .before .before .before .before .before .before .before .before .before .before .loop .inv) (c .before .before .before .before .before .before .before .before .before .before .loop-test .taken) (c .before .before .before .before .before .before .before .before .is-core-cell .ensures) (c .before .before .before .before .before .before .before .if1 .taken) (c .before .before .before .before .before .word .ensures) (c .before .before .before .list-later .ensures .0) (c .before .before .before .list-later .ensures .1)
+unite-list-requires c κs = can-unite-list (c .before .before .before .before .before .before .before .before .before .before .before .before .before .pre .0 .0) (c .before .before .before .before .before .before .before .before .before .before .before .before .before .pre .0 .1) (c .before .before .before .before .before .before .before .before .before .before .before .loop .inv .standing) (row-cell (c .before .before .before .before .before .before .before .before .before .before .before .before .before .pre .0 .0) (c .before .before .before .before .before .before .before .before .before .before .before .before .before .pre .0 .1) (c .before .before .before .before .before .before .before .before .before .before .before .loop .inv) (c .before .before .before .before .before .before .before .before .before .before .loop-test .taken)) (c .before .before .before .before .before .before .before .before .is-core-cell .ensures) (c .before .before .before .before .before .before .before .if1 .taken) (c .before .before .before .before .before .word .ensures) (c .before .before .before .list-later .ensures .0) (c .before .before .before .list-later .ensures .1)
 
 mul-clear-words : tie.Need-mul-clear-words Inv-loop μ-loop
 mul-clear-words c = omega arith
 
 clear-words-requires : tie.Need-clear-words-requires Inv-loop μ-loop
-clear-words-requires c κs = can-clear (c .before .before .before .before .before .before .before .before .before .before .before .before .before .before .before .before .before .pre .0 .0) (c .before .before .before .before .before .before .before .before .before .before .before .before .before .before .before .before .before .pre .0 .1) (c .before .before .before .before .before .before .before .before .before .before .before .before .before .before .before .loop .inv) (c .before .before .before .before .before .before .before .before .before .before .before .before .before .before .loop-test .taken) (c .before .before .before .before .before .before .before .before .before .before .before .before .is-core-cell .ensures) (c .before .before .before .before .before .before .before .before .before .before .before .if1 .taken) (c .before .before .before .before .before .before .before .before .before .word .ensures) (c .before .before .before .before .before .before .before .list-later .ensures .0) (c .before .before .before .before .before .before .before .list-later .ensures .1) (c .before .before .before .unite-list .ensures)
+clear-words-requires c κs = can-clear-row (c .before .before .before .before .before .before .before .before .before .before .before .before .before .before .before .before .before .pre .0 .0) (c .before .before .before .before .before .before .before .before .before .before .before .before .before .before .before .before .before .pre .0 .1) (c .before .before .before .before .before .before .before .before .before .before .before .before .before .before .before .loop .inv) (c .before .before .before .before .before .before .before .before .before .before .before .before .before .before .loop-test .taken) (c .before .before .before .before .before .before .before .before .before .before .before .before .is-core-cell .ensures) (c .before .before .before .before .before .before .before .before .before .before .before .if1 .taken) (c .before .before .before .before .before .before .before .before .before .word .ensures) (c .before .before .before .before .before .before .before .list-later .ensures .0) (c .before .before .before .before .before .before .before .list-later .ensures .1) (c .before .before .before .unite-list .ensures)
 
 loop-less : tie.Need-loop-less Inv-loop μ-loop
 loop-less c = omega arith
@@ -58,7 +58,7 @@ loop-again-2 : tie.Need-loop-again-2 Inv-loop μ-loop
 loop-again-2 c = rows-skip (c .before .before .before .before .before .before .pre .0 .0) (c .before .before .before .before .before .before .pre .0 .1) (c .before .before .before .before .loop .inv) (c .before .before .before .loop-test .taken) (c .before .is-core-cell .ensures) (c .if1 .left)
 
 same-length : tie.Need-same-length Inv-loop μ-loop
-same-length c = c .before .loop .inv .leading .size
+same-length c = c .before .loop .inv .standing .leading .size
 
 returns : tie.Need-returns Inv-loop μ-loop
 returns c = rows-end (c .before .before .before .pre .0 .0) (c .before .before .before .pre .0 .1) (c .before .loop .inv) (c .loop-test .left)
