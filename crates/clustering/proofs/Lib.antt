@@ -17,3 +17,4 @@ pub mod Bordering
 pub mod Labelled
 pub mod Columns
 pub mod Whole
+pub mod Asking

@@ -15,6 +15,7 @@ ghost use Rattle.clustering.specs.Numbering.{clusterWord};
 
 pub mod labels;
 pub mod linking;
+pub mod trees;
 pub mod uniting;
 
 // The regions, of one word a frame. From 6n on the leader of each cell.
