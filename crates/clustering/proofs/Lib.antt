@@ -18,3 +18,4 @@ pub mod Bordering
 pub mod Labelled
 pub mod Columns
 pub mod Whole
+pub mod Asking

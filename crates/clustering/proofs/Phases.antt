@@ -151,11 +151,11 @@ module _ {ps : List ℤ} {v : ValidParams} {n : ℕ} (r : Ready ps v n) {k : ℕ
       close-stand : Stands k (meetAll byLowest (linkAt g) close (λ c. c)) C
       close-stand = all-stand (linkAt g) k close (λ a b i. let z = in-pairs g a b (close-some a b i) in (omega (arith, z .0, cell-count r gr), omega (arith, z .1, cell-count r gr))) (alone-stands k)
 
-      close-size : length C ≡ k
+      pub close-size : length C ≡ k
       close-size = close-stand .size
 
       module _ {u : List ℕ} (eu : u ≡ over w₁ (6 * n) (meetAll byOwnLeaders (linkAt (geometryAt v n ps)) (closePairs v n ps (sortedCells w₁ n k)) (part w₁ (6 * n) k))) where
-        close-laid : u ≡ over w (6 * n) C
+        pub close-laid : u ≡ over w (6 * n) C
         close-laid =
             eu
             ∙ ap₂ (λ (x p : List ℕ). over x (6 * n) (meetAll byOwnLeaders (linkAt g) close p)) first leaders-first

@@ -36,13 +36,24 @@ abbrev met : (v : ValidParams) (n : ℕ) (ps : List ℤ) → List ℕ → (ℕ �
 met v n ps cs = meetAll byLowest (linkAt (geometryAt v n ps)) (pairsBy (geometryAt v n ps) (laterOf v n ps) cs)
 
 -- w₀ are the words at first, w those now: words laid over the leaders, and over those from 8n up to 10n, cover all that has changed
+abbrev pub Still : (n k : ℕ) (w₀ w : List ℕ) → Type 0
+Still n k w₀ w = (P Z : List ℕ) → length P ≡ k → length Z ≡ 2 * n → over (over w (6 * n) P) (8 * n) Z ≡ over (over w₀ (6 * n) P) (8 * n) Z
+
+-- so the words now are those at first, but for these
+pub still-all : (n k : ℕ) (w₀ w : List ℕ) → k ≤ n → 16 * n ≤ length w → Still n k w₀ w → w ≡ over (over w₀ (6 * n) (part w (6 * n) k)) (8 * n) (part w (8 * n) (2 * n))
+still-all n k w₀ w few wide s =
+    let p = part w (6 * n) k in
+    let Z = part w (8 * n) (2 * n) in
+    sym (ap (λ (z : List ℕ). over z (8 * n) Z) (over-self w (6 * n) k p refl (omega arith)) ∙ over-self w (8 * n) (2 * n) Z refl (omega arith))
+    ∙ s p Z (part-length w (6 * n) k (omega arith)) (part-length w (8 * n) (2 * n) (omega arith))
+
 pub record Stages (v : ValidParams) (n : ℕ) (ps : List ℤ) (k : ℕ) (w₀ w : List ℕ) (from : ℕ) : Type 0 where
   pub search : CanSearch ps v n k w
   pub size : length w ≡ length w₀
   pub high : from ≤ k
   pub falling : Falling (part w (6 * n) k)
   pub stand : (low : ℕ → ℕ) → Stands k low (part w₀ (6 * n) k) → Stands k (met v n ps (numbers from) low) (part w (6 * n) k)
-  pub still : (P Z : List ℕ) → length P ≡ k → length Z ≡ 2 * n → over (over w (6 * n) P) (8 * n) Z ≡ over (over w₀ (6 * n) P) (8 * n) Z
+  pub still : Still n k w₀ w
 
 module _ {ps : List ℤ} {v : ValidParams} {n : ℕ} (r : Ready ps v n) {k : ℕ} {w₀ : List ℕ} (gr : Grown (geometryAt v n ps) k w₀) where
   abbrev g : Geometry
@@ -76,12 +87,9 @@ module _ {ps : List ℤ} {v : ValidParams} {n : ℕ} (r : Ready ps v n) {k : ℕ
     pub stages-end : k ≤ from → ((low : ℕ → ℕ) → Stands k low (part w₀ (6 * n) k) → Stands k (met v n ps (numbers k) low) (part w (6 * n) k))
         × (w ≡ over (over w₀ (6 * n) (part w (6 * n) k)) (8 * n) (part w (8 * n) (2 * n)))
     stages-end h =
-        let e : from ≡ k = omega (arith, i .high) in
-        let Z = part w (8 * n) (2 * n) in
-        let self = over-self w (6 * n) k p refl (omega (arith, few, wide)) in (
+        let e : from ≡ k = omega (arith, i .high) in (
           λ low s. subst (λ (m : ℕ). Stands k (met v n ps (numbers m) low) p) e (i .stand low s),
-          sym (ap (λ (z : List ℕ). over z (8 * n) Z) self ∙ over-self w (8 * n) (2 * n) Z refl (omega (arith, wide)))
-              ∙ i .still p Z p-length (part-length w (8 * n) (2 * n) (omega (arith, wide))),
+          still-all n k w₀ w few wide (i .still),
         )
 
     places-below : Below k (part w (14 * n) k)
@@ -158,6 +166,21 @@ module _ {ps : List ℤ} {v : ValidParams} {n : ℕ} (r : Ready ps v n) {k : ℕ
           ∙ part-same u₂ (8 * n) k runs (omega (arith, on₂ .1 .2)) runs-long
           ∙ ap runsOf (sym (marks-are w₁ n k low (subst (Below k) (sym places₁) places-below) marks₁ ∙ ap (map low) places₁))
 
+      pub marked-still : Still n k w w₁
+      marked-still P Z lp lz =
+          let x = over w (6 * n) P in
+          let lx : length x ≡ length w = over-length w (6 * n) P (omega (arith, few, wide)) in
+          let x₂ = over x (9 * n) lowest in
+          let lx₂ : length x₂ ≡ length x = over-length x (9 * n) lowest (omega (arith, lowest-length, few, wide)) in
+          ap (λ (z : List ℕ). over z (8 * n) Z)
+          (ap (λ (z : List ℕ). over z (6 * n) P) e₁
+          ∙ sym (over-apart u₂ (6 * n) (8 * n) P runs (omega (arith, few)) (omega (arith, runs-long, few, on₂ .1 .2)))
+          ∙ ap (λ (z : List ℕ). over z (8 * n) runs)
+          (sym (over-apart u₁ (6 * n) (9 * n) P lowest (omega (arith, few)) (omega (arith, lowest-length, few, on₁ .1 .2)))
+          ∙ ap (λ (z : List ℕ). over z (9 * n) lowest) (over-again w (6 * n) lowest P (omega (arith, wide)) (lp ∙ sym lowest-length))))
+          ∙ over-cover x₂ (8 * n) (8 * n) runs Z (omega arith) (omega (arith, runs-long, few)) (omega (arith, wide))
+          ∙ over-cover x (9 * n) (8 * n) lowest Z (omega arith) (omega (arith, lowest-length, few)) (omega (arith, wide))
+
       lowest-stand : {l : ℕ → ℕ} → Stands k l p → Stands k l (part w₁ (6 * n) k)
       lowest-stand {l} s = subst (Stands k l) (sym leaders₁) (flat-stands s)
 
@@ -195,22 +218,11 @@ module _ {ps : List ℤ} {v : ValidParams} {n : ℕ} (r : Ready ps v n) {k : ℕ
           leaders₂ : part w₂ (6 * n) k ≡ q
           leaders₂ = ap (λ (z : List ℕ). part z (6 * n) k) e₂ ∙ part-same w₁ (6 * n) k q (omega (arith, on₃ .1 .2)) q-length
 
-          covered : (P Z : List ℕ) → length P ≡ k → length Z ≡ 2 * n → over (over w₂ (6 * n) P) (8 * n) Z ≡ over (over w (6 * n) P) (8 * n) Z
+          covered : Still n k w w₂
           covered P Z lp lz =
-              let x = over w (6 * n) P in
-              let lx : length x ≡ length w = over-length w (6 * n) P (omega (arith, few, wide)) in
-              let x₂ = over x (9 * n) lowest in
-              let lx₂ : length x₂ ≡ length x = over-length x (9 * n) lowest (omega (arith, lowest-length, few, wide)) in
               ap (λ (z : List ℕ). over (over z (6 * n) P) (8 * n) Z) e₂
-              ∙ ap (λ (z : List ℕ). over z (8 * n) Z)
-              (over-again w₁ (6 * n) q P (omega (arith, on₃ .1 .2)) (lp ∙ sym q-length)
-              ∙ ap (λ (z : List ℕ). over z (6 * n) P) e₁
-              ∙ sym (over-apart u₂ (6 * n) (8 * n) P runs (omega (arith, few)) (omega (arith, runs-long, few, on₂ .1 .2)))
-              ∙ ap (λ (z : List ℕ). over z (8 * n) runs)
-              (sym (over-apart u₁ (6 * n) (9 * n) P lowest (omega (arith, few)) (omega (arith, lowest-length, few, on₁ .1 .2)))
-              ∙ ap (λ (z : List ℕ). over z (9 * n) lowest) (over-again w (6 * n) lowest P (omega (arith, wide)) (lp ∙ sym lowest-length))))
-              ∙ over-cover x₂ (8 * n) (8 * n) runs Z (omega arith) (omega (arith, runs-long, few)) (omega (arith, wide))
-              ∙ over-cover x (9 * n) (8 * n) lowest Z (omega arith) (omega (arith, lowest-length, few)) (omega (arith, wide))
+              ∙ ap (λ (z : List ℕ). over z (8 * n) Z) (over-again w₁ (6 * n) q P (omega (arith, on₃ .1 .2)) (lp ∙ sym q-length))
+              ∙ marked-still P Z lp lz
 
           pub stages-on : Stages v n ps k w₀ w₂ to
           stages-on = record {

@@ -50,7 +50,7 @@ module _ {ps : List ℤ} {v : ValidParams} {n : ℕ} (r : Ready ps v n) {k : ℕ
 
   -- ---- sorted
   module _ {w₀ : List ℕ} (e₀ : w₀ ≡ sortedBy (cellKey v n ps) k (4 * k) (10 * n) n w) where
-    sorted₀ : w₀ ≡ sorted ps v n w
+    pub sorted₀ : w₀ ≡ sorted ps v n w
     sorted₀ = e₀ ∙ ap (λ (m : ℕ). sortedBy (cellKey v n ps) m (4 * m) (10 * n) n w) (cell-count r gr)
 
     pub search₀ : CanSearch ps v n k w₀

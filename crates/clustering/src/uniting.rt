@@ -313,7 +313,7 @@ fn write_runs(work: &mut [Word], n: usize, k: usize)
 }
 
 // Gives each cell the lowest cell of its set for its leader, and for its mark, and writes the runs of the marks.
-fn mark_cells(work: &mut [Word], n: usize, k: usize)
+pub fn mark_cells(work: &mut [Word], n: usize, k: usize)
     requires { ⌜ (k ≤ n) × (n ≤ maxFrames) × (16 * n ≤ length (now work)) × Below k (part (now work) (14 * n) k) × Falling (part (now work) (6 * n) k) ⌝ }
     ensures { λ _. ⌜ (let low = root (part (now (work .entry)) (6 * n) k) in now (work .exit) ≡ over (over (over (now (work .entry))
         (6 * n) (column low k))
@@ -445,7 +445,7 @@ fn meet_close(
 
 // Takes each sorted core cell from place 8 on with the eight before it. (Cells that stand together mostly lie in one block: so most of those that are linked
 // are united with no search, and the search that follows finds them in one set. Turn q is for the cell at place q / 8.)
-fn unite_close_cells(points: &[i16], v: ValidParams, n: usize, k: usize, work: &mut [Word])
+pub fn unite_close_cells(points: &[i16], v: ValidParams, n: usize, k: usize, work: &mut [Word])
     requires { ⌜ Ready (now points) v n × Grown (geometryAt v n (now points)) k (now work) × CellsSorted v n (now points) (now work) ⌝ }
     requires { ⌜ (16 * n ≤ length (now work)) × Falling (part (now work) (6 * n) k) ⌝ }
     ensures { λ _. ⌜ now (work .exit) ≡ over (now (work .entry)) (6 * n) (meetAll byOwnLeaders (linkAt (geometryAt v n (now (points .entry))))
