@@ -7,6 +7,7 @@ use cells_grid::PLACES;
 use cells_grid::STARTS;
 use cells_grid::listing::ENDS;
 use cells_grid::listing::LIST;
+use core_cells::PATHS;
 use counting_tree::IntersectionType;
 use hyperparams::ValidParams;
 use lists::Word;
@@ -169,18 +170,15 @@ fn unite_soon(points: &[i16], v: ValidParams, n: usize, k: usize, work: &mut [Wo
     }
 }
 
-// A cell with more than so many frames is large: a tree of it is worth building.
-const LARGE: usize = 64;
-
 // How many frames may not be core where none is looked for: each may ask a large cell.
 const BORDER: usize = 64;
 
-// Whether cell c is large.
+// Whether cell c is large: so many frames may be core that it would have a tree.
 fn is_large(work: &[Word], n: usize, k: usize, c: usize) -> bool
     requires { ⌜ (c < k) × (k ≤ n) × (3 * n ≤ length (now work)) × (getD (now work) (2 * n + c) 0 ≤ endIn (now work) n k c) ⌝ }
     ensures { λ r. ⌜ r ≡ ltb 64 (endIn (now (work .entry)) n k c - getD (now (work .entry)) (2 * n + c) 0) ⌝ }
 {
-    cells_grid::cell_end(work, n, k, c) - lists::word(work, STARTS * n + c) > LARGE
+    cells_grid::cell_end(work, n, k, c) - lists::word(work, STARTS * n + c) > PATHS
 }
 
 // Whether some cell is large.
@@ -310,12 +308,20 @@ fn unite_without_trees(points: &[i16], v: ValidParams, n: usize, k: usize, work:
     crate::uniting::mark_cells(work, n, k);
 }
 
+// Whether trees may be asked that were not built: with s 0 none is, and where there are many cells those of the large ones are there.
+fn may_lack(v: ValidParams, n: usize, k: usize) -> bool {
+    if v.s == 0 {
+        return false;
+    }
+    core_cells::path_limit(v.s, n, k) > PATHS
+}
+
 // Whether trees are asked. (The answer is free: no label depends on whether a cell has a tree.) It works in the words of the leaders, and from 8n up to 10n.
 pub fn wanted(points: &[i16], v: ValidParams, n: usize, k: usize, work: &mut [Word]) -> bool
     requires { ⌜ Ready (now points) v n × Grown (geometryAt v n (now points)) k (now work) × (16 * n ≤ length (now work)) × Clear (now work) (10 * n) (6 * n) ⌝ }
     ensures { λ _. ⌜ now (work .exit) ≡ over (over (now (work .entry)) (6 * n) (part (now (work .exit)) (6 * n) k)) (8 * n) (part (now (work .exit)) (8 * n) (2 * n)) ⌝ }
 {
-    if v.s == 0 {
+    if !may_lack(v, n, k) {
         return false;
     }
     if !has_large(work, n, k) {
