@@ -1,18 +1,24 @@
 // Whether two core cells are linked. The frames of both are asked by turns: so a link is found early, from whichever side has it.
 use cells_grid::PLACES;
 use cells_grid::STARTS;
+use cells_grid::listing::TREES;
 use counting_tree::Box;
 use counting_tree::IntersectionType;
 use hyperparams::ValidParams;
 use lists::Word;
 ghost use mathlib.Core.Path.{_≡_};
-ghost use Prim.Native.Nat.{_+_, _-_, _*_, _<_, _≤_, max};
+ghost use mathlib.Core.Bool.{true};
+ghost use Prim.Native.Nat.{ℕ, _+_, _-_, _*_, _<_, _≤_, max};
 ghost use lib.ListN.{length, getD};
-ghost use Rattle.lists.specs.Lists.{any};
+ghost use Rattle.lists.specs.Lists.{any, In, nonzero};
 ghost use Rattle.lists.specs.Words.{rest};
+ghost use Rattle.counting_tree.specs.declared.IntersectionType.the-variants.{Disjoint, FullyCovered};
 ghost use Rattle.counting_tree.specs.Ready.{geometryAt, Ready};
+ghost use Rattle.cells_grid.specs.Arrangement.{cellAt};
+ghost use Rattle.cells_grid.specs.Cells.{count};
 ghost use Rattle.cells_grid.specs.Places.{endIn};
-ghost use Rattle.core_cells.specs.Forest.{Grown};
+ghost use Rattle.core_cells.specs.Forest.{treeFrames, Grown};
+ghost use Rattle.core_cells.specs.Settling.{Apart};
 ghost use Rattle.core_cells.specs.RootBox.{rootUnless};
 ghost use Rattle.clustering.specs.UniteAll.{linkAt};
 ghost use Rattle.clustering.specs.Turns.{askedAt, turnAt};
@@ -116,6 +122,28 @@ fn by_turns(
     false
 }
 
+// What the core frames of c and d tell by whole numbers before a tree of them is asked; Intersecting says nothing. (Where neither has a tree it is not asked:
+// a frame then asks the other cell's frames itself, and only where the root box does not tell.)
+fn told_by_cells(
+    points: &[i16],
+    v: ValidParams,
+    n: usize,
+    k: usize,
+    work: &[Word],
+    c: usize,
+    d: usize,
+) -> IntersectionType
+    requires { ⌜ Ready (now points) v n × Grown (geometryAt v n (now points)) k (now work) × (c < k) × (d < k) ⌝ }
+    ensures touches { λ r. ⌜ (r ≡ FullyCovered → (let g = geometryAt v n (now (points .entry)) in (q : ℕ) × In q (treeFrames g c) × (nonzero (count g q (cellAt g d)) ≡ true))) ⌝ }
+    ensures apart { λ r. ⌜ (r ≡ Disjoint → Apart v n (now (points .entry)) c d) ⌝ }
+{
+    let trees = TREES * n;
+    if larger(lists::word(work, trees + c), lists::word(work, trees + d)) <= 1 {
+        return IntersectionType::Intersecting;
+    }
+    core_cells::pairs::settled_by_cells(points, v, n, k, work, c, d)
+}
+
 // Whether core cells c and d are linked: whether a core frame of one has a non-zero count in the tree of the other.
 pub fn is_linked(
     points: &[i16],
@@ -141,7 +169,7 @@ pub fn is_linked(
     if most <= TURNS {
         return false;
     }
-    match core_cells::pairs::settled_by_cells(points, v, n, k, work, c, d) {
+    match told_by_cells(points, v, n, k, work, c, d) {
         IntersectionType::Disjoint => false,
         IntersectionType::FullyCovered => true,
         IntersectionType::Intersecting => by_turns(points, v, n, k, work, a, b, TURNS, most),

@@ -43,8 +43,8 @@ returns-3 c =
     let s = c .before .before .before .before .before .before .before .before .before .before .before .pre in
     link-few _ (c .before .before .before .before .before .before .before .target-of .ensures .0) (c .before .before .before .before .before .before .target-of2 .ensures .0) (c .before .before .before .before .before .by-turns .ensures) (c .before .before .before .before .if2 .left) (size-held (s .0) (s .1) (s .2) (c .before .before .before .size-of .ensures)) (size-held (s .0) (s .1) (s .3) (c .before .before .size-of2 .ensures)) (c .before .larger .ensures) (c .if3 .taken)
 
-settled-by-cells-requires : tie.Need-settled-by-cells-requires
-settled-by-cells-requires c κs = search needs
+told-by-cells-requires : tie.Need-told-by-cells-requires
+told-by-cells-requires c κs = search needs
 
 enum-told : tie.Need-enum-told
 enum-told c = search needs
@@ -65,12 +65,12 @@ by-turns-requires-2 c κs =
 returns-4 : tie.Need-returns-4
 returns-4 c =
     let s = c .before .before .before .before .before .before .before .before .before .before .before .before .before .before .pre in
-    link-none (s .0) (s .2) (s .3) (c .before .before .settled-by-cells .ensures .1 .1 (c .enum-told .given .1))
+    link-none (s .0) (s .2) (s .3) (c .before .before .told-by-cells .ensures .1 (c .enum-told .given .1))
 
 returns-5 : tie.Need-returns-5
 returns-5 c =
     let s = c .before .before .before .before .before .before .before .before .before .before .before .before .before .before .pre in
-    link-some (s .0) (s .2) (s .3) (c .before .before .settled-by-cells .ensures .1 .0 (c .enum-told2 .given .1))
+    link-some (s .0) (s .2) (s .3) (c .before .before .told-by-cells .ensures .0 (c .enum-told2 .given .1))
 
 returns-6 : tie.Need-returns-6
 returns-6 c =
@@ -91,7 +91,7 @@ is-linked-spec =
     size-of-requires-2
     larger-requires
     returns-3
-    settled-by-cells-requires
+    told-by-cells-requires
     enum-told
     enum-told-2
     enum-told-3

@@ -6,77 +6,52 @@ use Rattle.clustering.proofs.Asking.{unchanged, can-ask-some, cleared}
 use borrow.Author.Needs.{needs}
 use Rattle.clustering.proofs.trees.wanted.Statement.{statement}
 use Rattle.clustering.proofs.trees.wanted.Tie as tie
-use Rattle.clustering.proofs.trees.wanted.Reads as reads
-use Rattle.clustering.proofs.trees.wanted.Lts as lts
-use Rattle.cells_grid.proofs.listing.sort_cells.Reads as sort-cells-reads
-use Rattle.clustering.proofs.trees.has_border.Reads as has-border-reads
-use Rattle.clustering.proofs.trees.has_large.Reads as has-large-reads
-use Rattle.clustering.proofs.trees.may_lack.Reads as may-lack-reads
-use Rattle.clustering.proofs.trees.some_ask.Reads as some-ask-reads
-use Rattle.clustering.proofs.trees.unite_without_trees.Reads as unite-without-trees-reads
-use Rattle.lists.proofs.clear_words.Reads as clear-words-reads
 
--- src/trees.rt:324:9
 may-lack-requires : tie.Need-may-lack-requires
 may-lack-requires c κs = search needs
 
--- src/trees.rt:325:9
 returns : tie.Need-returns
 returns c = let s = c .before .before .before .pre in unchanged (s .0) (s .1) (s .2) (s .3)
 
--- src/trees.rt:327:9
 has-large-requires : tie.Need-has-large-requires
 has-large-requires c κs = let s = c .before .before .before .before .pre in ((few-cells (s .0) (s .1), s .0 .few, omega (arith, s .2)), λ d h. can-order (s .0) (s .1) h .3)
 
--- src/trees.rt:328:9
 same-length : tie.Need-same-length
 same-length c = search needs
 
--- src/trees.rt:328:9
 returns-2 : tie.Need-returns-2
 returns-2 c = let s = c .before .before .before .before .before .before .pre in unchanged (s .0) (s .1) (s .2) (s .3)
 
--- src/trees.rt:330:8
 has-border-requires : tie.Need-has-border-requires
 has-border-requires c κs = search needs
 
--- src/trees.rt:331:9
 same-length-2 : tie.Need-same-length-2
 same-length-2 c = search needs
 
--- src/trees.rt:331:9
 returns-3 : tie.Need-returns-3
 returns-3 c = let s = c .before .before .before .before .before .before .before .before .before .pre in unchanged (s .0) (s .1) (s .2) (s .3)
 
--- src/trees.rt:333:5
 sort-cells-requires : tie.Need-sort-cells-requires
 sort-cells-requires c κs = let s = c .before .before .before .before .before .before .before .before .before .before .pre in ((s .0, s .1 .cored .cells, s .2, s .3), tree-held (s .0) (s .1))
 
--- src/trees.rt:334:5
 unite-without-trees-requires : tie.Need-unite-without-trees-requires
 unite-without-trees-requires c κs = let s = c .before .before .before .before .before .before .before .before .before .before .before .before .before .before .pre in let z = search₀ (s .0) (s .1) (s .2) (s .3) (c .before .before .before .sort-cells .ensures) in (s .0, z .0, z .1 .0, z .1 .2, z .1 .1)
 
--- src/trees.rt:335:9
 some-ask-requires : tie.Need-some-ask-requires
 some-ask-requires c κs = let s = c .before .before .before .before .before .before .before .before .before .before .before .before .before .before .before .before .before .before .pre in can-ask-some (s .0) (s .1) (s .2) (s .3) (c .before .before .before .before .before .before .before .sort-cells .ensures) (c .before .before .before .unite-without-trees .ensures .0) (c .before .before .before .unite-without-trees .ensures .1)
 
--- src/trees.rt:336:30
 mul-clear-words : tie.Need-mul-clear-words
 mul-clear-words c = search needs
 
--- src/trees.rt:336:40
 mul-clear-words-2 : tie.Need-mul-clear-words-2
 mul-clear-words-2 c = search needs
 
--- src/trees.rt:336:5
 clear-words-requires : tie.Need-clear-words-requires
 clear-words-requires c κs = search needs
 
--- src/trees.rt:320:1
 same-length-3 : tie.Need-same-length-3
 same-length-3 c = search needs
 
--- src/trees.rt:320:1
 returns-4 : tie.Need-returns-4
 returns-4 c = let s = c .before .before .before .before .before .before .before .before .before .before .before .before .before .before .before .before .before .before .before .before .before .before .before .before .before .pre in cleared (s .0) (s .1) (s .2) (s .3) (c .before .before .before .before .before .before .before .before .before .before .before .before .before .before .sort-cells .ensures) (c .before .before .before .before .before .before .before .before .before .before .unite-without-trees .ensures .0) (c .before .before .before .before .before .before .some-ask .ensures) (c .before .before .clear-words .ensures)
 
