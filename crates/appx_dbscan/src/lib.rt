@@ -1,4 +1,6 @@
 // The clustering of frames: which are ordinary, and which are noise. `v` has the settings, `n` is the number of frames.
+#![tactic(auto)]
+
 ghost use Rattle.std.specs.Prelude.{◌≡◌, ℕ, ◌+◌, ◌*◌, ◌≤◌, eqb, length, get_or, replicate};
 ghost use Rattle.lists.specs.Lists.{numbers, how_many, Below};
 ghost use Rattle.lists.specs.Words.{over, part, column, Clear};

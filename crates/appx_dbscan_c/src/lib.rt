@@ -1,4 +1,6 @@
 // The run for callers in C and other languages: slices as a pointer and a length, the answer as numbers.
+#![tactic(auto)]
+
 ghost use Rattle.std.specs.Prelude.{◌≡◌};
 ghost use Rattle.hyperparams.specs.declared.ValidParams.{ValidParams};
 ghost use Rattle.hyperparams.specs.declared.Checked.TheVariants.{Valid};

@@ -1,6 +1,8 @@
 // The frames near a frame, by blocks of counts. A block is more than twice as wide as the reach in each channel, so the frames within the reach of a frame lie in two blocks a channel.
 // Blocks that differ in channel 0 alone are a row. The bucket of a block is given by a hash of its row and by its number in the row: so where frames, or cells by their first frames,
 // are sorted by bucket, two blocks next to each other in a row stand together, and a search looks at one stretch a row, 2^(channels − 1) in all.
+#![tactic(auto)]
+
 ghost use Rattle.std.specs.Prelude.{◌≡◌, ℕ, ◌+◌, ◌-◌, ◌*◌, ◌/◌, ◌%◌, ◌^◌, ◌<◌, ◌≤◌, eqb, length, get_or, take, drop, replicate};
 ghost use Rattle.lists.specs.Lists.{Below};
 ghost use Rattle.lists.specs.Words.{over, column};

@@ -2,6 +2,8 @@
 // `v` has the settings, `n` is the number of frames, `k` the number of cells. A cell has a number; frame i's is at i,
 // and each of the regions below has one word a frame too. From 10n up to 16n, for `populate` and `label_points` also up to 24n,
 // each phase finds words that are 0 and leaves them so: `inserting`, `crowding`, `pairs`, `listing` and the crate `blocks` say what stands there meanwhile.
+#![tactic(auto)]
+
 ghost use Rattle.std.specs.Prelude.{◌≡◌, not, ◌+◌, ◌*◌, ◌<◌, ◌≤◌, eqb, length, get_or};
 ghost use Rattle.lists.specs.Lists.{numbers, any, how_many};
 ghost use Rattle.lists.specs.Words.{over, column, Clear};

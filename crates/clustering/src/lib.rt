@@ -1,5 +1,7 @@
 // Sets of linked core cells, and the labels of frames, in words of one lent slice.
 // `v` has the settings, `n` is the number of frames, `k` the number of cells.
+#![tactic(auto)]
+
 ghost use Rattle.std.specs.Prelude.{◌≡◌, ◌*◌, ◌≤◌, length};
 ghost use Rattle.lists.specs.Words.{over, column, Clear};
 ghost use Rattle.counting_tree.specs.Ready.{geometry_at, Ready};

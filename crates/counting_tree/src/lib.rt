@@ -1,4 +1,5 @@
 // The box of a frame at each level, and the test of a box against a frame.
+#![tactic(auto)]
 
 pub mod boxes;
 pub mod grid;

@@ -1,6 +1,8 @@
 // Writes the cells, lists, core frames, trees and counts of small sets of frames, one by one.
 // Standard input has the sets in hexadecimal: a line of settings (channels 2 digits, `min_points` 4, tolerance 4, s 2),
 // then a line a frame, 4 two's complement digits a channel. A line `--` ends a set.
+#![tactic(auto)]
+
 ghost use Rattle.std.specs.Prelude.{◌≡◌, ◌+◌, ◌*◌, ◌<◌, ◌≤◌, length, take};
 ghost use Rattle.hyperparams.specs.Params.{work_words};
 ghost use Rattle.counting_tree.specs.Ready.{Ready};

@@ -2,6 +2,8 @@
 // A line is 137 bytes, numbers in hexadecimal. A root: the bits of a float and of its root, 7ff8000000000000 for NaN.
 // An index: the count, the bits of the side, the index with its sign.
 // A box: channels, tolerance, the bits of the slack, of the side and of the centre's four coordinates, the four counts, the answer's first letter.
+#![tactic(auto)]
+
 ghost use Rattle.std.specs.Prelude.{◌+◌, ◌<◌, ◌≤◌, length};
 
 use counting_tree::{Box, IntersectionType};

@@ -1,4 +1,6 @@
 // The settings of a run, and the table of refusals.
+#![tactic(auto)]
+
 ghost use Rattle.std.specs.Prelude.{◌≡◌, ◌≤◌};
 ghost use Rattle.hyperparams.specs.Params.{slack_power, appx_tolerance_of, work_words, max_frames, max_power, checked_of, number_of};
 ghost use Rattle.hyperparams.specs.Tolerance.{whole_or0};

@@ -1,4 +1,6 @@
 // Words of one lent slice: read, copied, filled, made 0. Definitions and laws on lists, on groups, and on words in a slice: in specs/.
+#![tactic(auto)]
+
 ghost use Rattle.std.specs.Prelude.{◌≡◌, ◌⊎◌, ◌+◌, ◌<◌, ◌≤◌, length, get_or, replicate};
 ghost use Rattle.lists.specs.Words.{over, part};
 

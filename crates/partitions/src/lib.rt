@@ -1,4 +1,6 @@
 // Sets of cells as leader numbers in lent words, after the `partitions` crate's `PartitionVec`.
+#![tactic(auto)]
+
 ghost use Rattle.std.specs.Prelude.{◌≡◌, ◌<◌, ◌≤◌, eqb, length};
 ghost use Rattle.lists.specs.Words.{column};
 ghost use Rattle.partitions.specs.Leaders.{Falling, root, shorten, shorten_both, united};

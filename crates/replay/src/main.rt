@@ -1,5 +1,7 @@
 // Runs the stored inputs of standard input through the desk program's function, and writes how many outputs agree with the original's.
 // A vector is an input, two hyphens and a line feed, the expected output, two equals signs and a line feed.
+#![tactic(auto)]
+
 ghost use Rattle.std.specs.Prelude.{◌≡◌, ◌+◌, ◌≤◌, min, length};
 
 use libc::{STDIN_FILENO, STDOUT_FILENO};

@@ -1,5 +1,7 @@
 // The counting tree of a cell in words of one lent slice (TreeStructure of the source): built from a list of frames, and asked for the count of a frame.
 // `v` has the settings, `n` is the number of frames; `left` is the number of levels below a node of the level `level`, whose boxes have the side `side`.
+#![tactic(auto)]
+
 ghost use Rattle.std.specs.Prelude.{◌≡◌, List, ◌++◌, ◌∷◌, [], ℕ, ◌+◌, ◌-◌, ◌*◌, ◌<◌, ◌≤◌, length, get_or};
 ghost use Rattle.lists.specs.Lists.{keep, lose, Below};
 ghost use Rattle.lists.specs.Words.{over, part, Clear};

@@ -1,0 +1,43 @@
+use mathlib.Core.Path.{refl}
+use Prim.Native.Nat.{◌+◌, ◌-◌}
+use native.Mathlib.Omega.{arith}
+use lib.ListN.{get_or}
+use Rattle.lists.specs.LoopLaws.{Fill, fill_start, fill_length, fill_step, fill_part}
+use Rattle.lists.proofs.Copying.{copy_read}
+use Rattle.lists.proofs.copy_words.Goals as goal
+
+pub loop-i-init : goal.loop-i-init
+loop-i-init c = fill_start c.requires.m_in_bounds.1
+
+pub overflow_add-work : goal.overflow_add-work
+overflow_add-work c = omega arith
+
+pub offset_bounds-work-from : goal.offset_bounds-work-from
+offset_bounds-work-from c = omega arith
+
+pub bounds-work-from : goal.bounds-work-from
+bounds-work-from c = omega (arith, fill_length c.loop-i.invariant)
+
+pub overflow_add-work-in-loop-i : goal.overflow_add-work-in-loop-i
+overflow_add-work-in-loop-i c = omega arith
+
+pub offset_bounds-work-to : goal.offset_bounds-work-to
+offset_bounds-work-to c = omega arith
+
+pub bounds-work-to : goal.bounds-work-to
+bounds-work-to c = omega (arith, fill_length c.loop-i.invariant)
+
+pub overflow_add-i : goal.overflow_add-i
+overflow_add-i c = omega arith
+
+pub loop-i-smaller : goal.loop-i-smaller
+loop-i-smaller c = omega arith
+
+pub loop-i-preserved : goal.loop-i-preserved
+loop-i-preserved c = fill_step c.loop-i.invariant c.loop-i-test.true _ _ refl (copy_read c.requires.fact c.loop-i.invariant c.loop-i-test.true)
+
+pub shape_of-work : goal.shape_of-work
+shape_of-work c = fill_length c.loop-i.invariant
+
+pub returns : goal.returns
+returns c = fill_part _ c.args.from c.requires.m_in_bounds.0 c.loop-i.invariant c.loop-i-test.false

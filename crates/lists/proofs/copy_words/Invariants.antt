@@ -1,0 +1,14 @@
+-- `copy_words` meets its contract.
+use mathlib.Core.Path.{refl}
+use Prim.Native.Nat.{◌+◌, ◌-◌}
+use native.Mathlib.Omega.{arith}
+use lib.ListN.{get_or}
+use Rattle.lists.specs.LoopLaws.{Fill, fill_start, fill_length, fill_step, fill_part}
+use Rattle.lists.proofs.Copying.{copy_read}
+use Rattle.lists.proofs.copy_words.Given as goal
+
+abbrev pub invariant-loop-i : goal.invariant-loop-i
+invariant-loop-i l = Fill (λ j. get_or l.initial.work (l.from + j) 0) l.initial.work l.to l.m l.work l.i
+
+abbrev pub decreases-loop-i : goal.decreases-loop-i
+decreases-loop-i l = l.m - l.i
