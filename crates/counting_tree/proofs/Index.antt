@@ -16,7 +16,7 @@ use Rattle.ieee754.specs.Value.{unit, unit_pos, mag, Good}
 use Rattle.ieee754.specs.Ceil.{ceil}
 use Rattle.ieee754.specs.Small.{Small}
 use Rattle.ieee754.proofs.Signed.{mag_add}
-use Rattle.ieee754.proofs.Ceil.{ceil_small, in_float}
+use Rattle.ieee754.proofs.Ceil.{ceil_small, in_float_lem}
 use Rattle.hyperparams.specs.Params.{float}
 use Rattle.counting_tree.specs.Grid.{index, index_at, half}
 use Rattle.counting_tree.specs.Radius.{Side}
@@ -74,4 +74,4 @@ index_fits r side c s b e = let h = subst (λ (k : ℤ). Signed.mag k < 2 ^ 31) 
 pub index_back : (r : ℤ) (side : Float) (c : ℤ) → Side side → nat_abs c ≤ 2 ^ 15 → r ≡ index side c → T (in_float binary64 (to_z w64 (of_z w64 r))) × (to_z w64 (of_z w64 r) ≡ index side c)
 index_back r side c s b e =
     let f = index_fits r side c s b e in
-    (subst (λ (k : ℤ). T (in_float binary64 k)) (sym (to_z-of_z f.1)) (in_float r (lt_trans f.0 (lit< tt))), to_z-of_z f.1 ∙ e)
+    (subst (λ (k : ℤ). T (in_float binary64 k)) (sym (to_z-of_z f.1)) (in_float_lem r (lt_trans f.0 (lit< tt))), to_z-of_z f.1 ∙ e)

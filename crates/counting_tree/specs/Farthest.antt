@@ -366,11 +366,11 @@ root_nan : root nan ≡ nan
 unfolding root
 root_nan = refl
 
-is_nan : (x : Float) → is_nan x ≡ true → x ≡ nan
+is_nan_lem : (x : Float) → is_nan x ≡ true → x ≡ nan
 unfolding is_nan
-is_nan nan e = refl
-is_nan (inf s) e = absurd (true≢false (sym e))
-is_nan (fin s m e) h = absurd (true≢false (sym h))
+is_nan_lem nan e = refl
+is_nan_lem (inf s) e = absurd (true≢false (sym e))
+is_nan_lem (fin s m e) h = absurd (true≢false (sym h))
 
 -- the larger of two roots is the root of the larger: where rounding makes the roots equal they are the same value
 root_larger : (far s : Float) → Size far → (T (not (is_nan s)) → Size s) → cond (lt (root far) (root s)) (root s) (root far) ≡ root (cond (lt far s) s far)
@@ -386,7 +386,7 @@ root_larger far s F S = go (is_nan s) refl
     go : (n : Bool) → is_nan s ≡ n → cond (lt (root far) (root s)) (root s) (root far) ≡ root (cond (lt far s) s far)
     go false e = by (S (true_is (ap not e))) (lt far s) (lt (root far) (root s)) refl refl
     go true e =
-        let i = is_nan s e in
+        let i = is_nan_lem s e in
         ap (λ (t : Bool). cond t (root s) (root far)) (ap (λ (x : Float). lt (root far) (root x)) i ∙ ap (lt (root far)) root_nan ∙ none_below (root far))
         ∙ sym (ap (λ (t : Bool). root (cond t s far)) (ap (lt far) i ∙ none_below far))
 

@@ -136,10 +136,10 @@ cut_small (inf s) z = absurd z
 cut_small (fin false m e) z = subst (λ (k : ℤ). mag k ≤ 2 ^ 40) (sym (cut_pos m e z)) (omega (arith, n_small m e z))
 cut_small (fin true m e) z = subst (λ (k : ℤ). mag k ≤ 2 ^ 40) (sym (cut_neg m e z)) (omega (arith, n_small m e z, mag_neg (m * up e / down e)))
 
-pub in_float : (k : ℤ) → mag k < 2 ^ 53 → T (in_float binary64 k)
+pub in_float_lem : (k : ℤ) → mag k < 2 ^ 53 → T (in_float binary64 k)
 unfolding in_float
-in_float (pos n) h = le→leb n (2 ^ 53) (omega arith)
-in_float (negsuc n) h = lt→ltb n (2 ^ 53) (omega arith)
+in_float_lem (pos n) h = le→leb n (2 ^ 53) (omega arith)
+in_float_lem (negsuc n) h = lt→ltb n (2 ^ 53) (omega arith)
 
 -- the size of the ceiling
 pub ceil_small : (x : Float) → Small x → mag (ceil x) ≤ 2 ^ 40
@@ -155,10 +155,10 @@ module _ (x : Float) (t : ℤ) (z : Small x) (e : t ≡ to_signed 63 x) where
   small = subst (λ (k : ℤ). mag k ≤ 2 ^ 40) (sym e) (cut_small x z)
 
   back : to_z w64 (of_z w64 t) ≡ t
-  back = to_z-of_z (record { sfits = omega (arith, small) })
+  back = to_z-of_z {w = w64} (record { sfits = omega (arith, small) })
 
   pub cut_float : T (in_float binary64 (to_z w64 (of_z w64 t)))
-  cut_float = rw back (in_float t (omega (arith, small)))
+  cut_float = rw back (in_float_lem t (omega (arith, small)))
 
   more : SFits w64 (t +ℤ pos 1)
   more = record { sfits = omega (arith, small, mag_add t (pos 1)) }
