@@ -25,6 +25,12 @@ uncut x = eq (of_int binary64 (pos (to_unsigned 64 x))) x
 -- ---- two floats of which one holds t are equal exactly if both do
 eq_of : (y x : Float) (t : ℕ) → HasValue y false t 1 → HasValue x false t 1 → T (eq y x)
 unfolding eq
+eq_of nan _ t v w = elim v [ ]
+eq_of (inf _) _ t v w = elim v [ ]
+eq_of (fin false m e) nan t v w = elim w [ ]
+eq_of (fin false m e) (inf _) t v w = elim w [ ]
+eq_of (fin true m e) nan t v w = elim w [ ]
+eq_of (fin true m e) (inf _) t v w = elim w [ ]
 eq_of (fin true m e) (fin u n k) t v w = absurd (false≢true (sym v.0))
 eq_of (fin false m e) (fin true n k) t v w = absurd (false≢true (sym w.0))
 eq_of (fin false m e) (fin false n k) t v w =
@@ -33,6 +39,8 @@ eq_of (fin false m e) (fin false n k) t v w =
 
 value_of : (y : Float) (m : ℕ) (e : ℤ) (t : ℕ) → HasValue y false t 1 → T (eq y (fin false m e)) → m * up e ≡ t * down e
 unfolding eq
+value_of nan m e t v h = elim v [ ]
+value_of (inf _) m e t v h = elim v [ ]
 value_of (fin s n k) m e t v h =
     let p : n * up k * down e ≡ m * up e * down k = eqb→eq (n * up k * down e) (m * up e * down k) (and_l (eqb (n * up k * down e) (m * up e * down k)) (beq s false || eqb (n * up k * down e) 0) h) in
     eq_of_mul-eq-mul_right (down k) (down_pos k) (m * up e) (t * down e)
@@ -98,9 +106,9 @@ pub inside : (x : Float) → above x ≡ true → under x ≡ true → Inside x
 inside x p q = between x (subst T (sym p) tt) (subst T (sym q) tt)
 
 -- ---- the answer, with r for the whole part
-pub in_float : (x : Float) (r : ℕ) → r ≡ to_unsigned 64 x → Inside x → T (in_float binary64 (pos r))
+pub in_float_lem : (x : Float) (r : ℕ) → r ≡ to_unsigned 64 x → Inside x → T (in_float binary64 (pos r))
 unfolding in_float
-in_float x r e i = le→leb r (2 ^ 53) (le_trans (le_of_eq e) (le_trans i.small (lit≤ tt)))
+in_float_lem x r e i = le→leb r (2 ^ 53) (le_trans (le_of_eq e) (le_trans i.small (lit≤ tt)))
 
 pub found : (x : Float) (r : ℕ) → r ≡ to_unsigned 64 x → Inside x → eq (of_int binary64 (pos r)) x ≡ true → r ≡ whole_or0 x
 found x r e i t =
