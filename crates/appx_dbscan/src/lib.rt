@@ -27,14 +27,14 @@ const SCRATCH: usize = 10;
 const SCRATCH_WORDS: usize = 14;
 
 // The answer of a run: the number of clusters and of core frames, or why it was refused.
-#[derive(Drop)]
+#[derive(Clone, Copy)]
 pub enum Outcome {
     Labelled { clusters: usize, core_frames: usize },
     Refused(Refusal),
 }
 
 // The number of clusters and of core frames.
-#[derive(Drop)]
+#[derive(Clone, Copy)]
 struct Counts {
     clusters: usize,
     core_frames: usize,

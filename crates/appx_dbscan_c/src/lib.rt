@@ -16,7 +16,7 @@ use hyperparams::{MAX_FRAMES, MAX_POWER, Params};
 
 // `refusal` is 0 where the frames are labelled, else the number of the refusal, 1 to 9, and the counts are 0.
 #[repr(C)]
-#[derive(Drop)]
+#[derive(Clone, Copy)]
 pub struct AppxDbscanOutcome {
     pub refusal: u8,
     pub clusters: usize,

@@ -22,7 +22,7 @@ pub const PLACES: usize = 14;
 pub const KEYS: usize = 15;
 
 // A stretch of the sorted numbers, from `from` up to `to`, and after it from 0 up to `rest`.
-#[derive(Drop)]
+#[derive(Clone, Copy)]
 pub struct Stretch {
     pub from: usize,
     pub to: usize,

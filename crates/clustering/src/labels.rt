@@ -16,7 +16,7 @@ use hyperparams::ValidParams;
 use lists::Word;
 
 // The label and the kind of a frame.
-#[derive(Drop)]
+#[derive(Clone, Copy)]
 pub struct FrameLabel {
     pub label: Word,
     pub kind: u8,

@@ -41,7 +41,7 @@ fn larger(a: usize, b: usize) -> usize
 }
 
 // A cell whose tree is asked, with what `core_cells::reaches` takes of it: that is worked out once for all frames.
-#[derive(Drop)]
+#[derive(Clone, Copy)]
 struct Target {
     cell: usize,
     first: bool,

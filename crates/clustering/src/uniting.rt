@@ -31,14 +31,14 @@ const BACK: usize = 8;
 pub const MARKS: usize = 9;
 
 // What a trial left: the trials used, and whether the pair needs one more than there are.
-#[derive(Drop)]
+#[derive(Clone, Copy)]
 struct Tried {
     used: usize,
     stopped: bool,
 }
 
 // Where the trials ended: how many were used, and the pair that still needs one. Where none does, c is the number of cells and d is 0.
-#[derive(Drop)]
+#[derive(Clone, Copy)]
 pub struct Progress {
     pub used: usize,
     pub c: usize,

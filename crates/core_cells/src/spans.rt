@@ -25,7 +25,7 @@ use lists::Word;
 const MANY: usize = 64;
 
 // The lowest and the highest raised count of some frames in each channel, with zeros in the channels that are not used.
-#[derive(Drop)]
+#[derive(Clone, Copy)]
 pub struct Span {
     pub low: [u64; 4],
     pub high: [u64; 4],

@@ -7,14 +7,14 @@ pub mod paths;
 pub mod points;
 
 // A box: its centre, of which the first coordinates up to the number of channels count, and its side.
-#[derive(Drop)]
+#[derive(Clone, Copy)]
 pub struct Box {
     pub centre: [f64; 4],
     pub side: f64,
 }
 
 // How a box lies to a frame's ball.
-#[derive(Drop)]
+#[derive(Clone, Copy)]
 pub enum IntersectionType {
     FullyCovered,
     Disjoint,

@@ -20,7 +20,7 @@ pub const MAX_INPUT: usize = 13 + MAX_FRAMES * 17;
 const MAX_WORDS: usize = MAX_FRAMES * (16 + 4 * 12);
 
 // Bytes in the front of an array.
-#[derive(Drop)]
+#[derive(Clone, Copy)]
 pub struct Printed {
     pub bytes: [u8; MAX_OUTPUT],
     pub len: usize,

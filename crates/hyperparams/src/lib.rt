@@ -16,7 +16,7 @@ pub const MAX_POWER: usize = 10;
 const TOLERANCE_END: f64 = 65536.0;
 
 // The settings as the caller gives them (AppxDbscanParams of the source).
-#[derive(Drop)]
+#[derive(Clone, Copy)]
 pub struct Params {
     pub channels: usize,
     pub min_points: usize,
@@ -25,7 +25,7 @@ pub struct Params {
 }
 
 // Settings that passed the table: t is the tolerance as a whole number, and the slack is 1 / 2^s (AppxDbscanValidParams of the source).
-#[derive(Drop)]
+#[derive(Clone, Copy)]
 pub struct ValidParams {
     pub channels: usize,
     pub min_points: usize,
@@ -36,7 +36,7 @@ pub struct ValidParams {
 }
 
 // Why a call is refused: rows 1 to 9 of the table, in its order (AppxDbscanParamsError of the source has the first three).
-#[derive(Drop)]
+#[derive(Clone, Copy)]
 pub enum Refusal {
     MinPoints,
     Tolerance,
@@ -49,7 +49,7 @@ pub enum Refusal {
     Work,
 }
 
-#[derive(Drop)]
+#[derive(Clone, Copy)]
 pub enum Checked {
     Valid(ValidParams),
     Refused(Refusal),

@@ -17,7 +17,7 @@ use hyperparams::ValidParams;
 use lists::Word;
 
 // The count of a frame in a tree, and the first frame of the node that is counted; both are 0 where no node is.
-#[derive(Drop)]
+#[derive(Clone, Copy)]
 pub struct Counted {
     pub count: usize,
     pub first: usize,
