@@ -1,7 +1,5 @@
-use Rattle.std.proofs.Common.{◌≡◌, ◌<◌, ◌≤◌, eqb, length, ℕ, ◌+◌, ◌-◌, ◌*◌}
-use Rattle.lists.specs.Words.{column}
-use Rattle.partitions.specs.Leaders.{Falling, root, shorten, shorten_both, united}
+-- `find`: the cell number falls.
 use Rattle.partitions.proofs.+find.Given as goal
 
 abbrev pub decreases-find : goal.decreases-find
-decreases-find l = ?
+decreases-find l = l.c

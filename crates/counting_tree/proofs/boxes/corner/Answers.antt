@@ -1,0 +1,57 @@
+use mathlib.Core.Path.{◌≡◌, refl, sym, ap, subst, ◌∙◌}
+use mathlib.Core.Bool.{true, false}
+use mathlib.Core.List.{List}
+use mathlib.Core.Logic.{⊎_elim}
+use Prim.Native.Nat.{◌+◌, ◌-◌, ◌≤◌}
+use native.Mathlib.Omega.{arith}
+use borrow.Author.Tests.{eq-eqb, ne_eqb}
+use lib.ListN.{length, drop}
+use lib.Ieee.{Float}
+use Rattle.lists.specs.LoopLaws.{Fill, fill_start, fill_step, fill_end}
+use Rattle.lists.specs.Words.{over}
+use Rattle.counting_tree.specs.Arrays.{corner_of, row_of}
+use Rattle.counting_tree.proofs.Arrays.{corner_at, corner_column, corner_here, corner_after}
+use Rattle.counting_tree.proofs.boxes.corner.Goals as goal
+
+pub loop-i-init : goal.loop-i-init
+loop-i-init c = (omega arith, c.well_formed.0.1.0.1, refl, fill_start (omega arith), refl)
+
+pub offset_bounds-centre-i : goal.offset_bounds-centre-i
+offset_bounds-centre-i c = omega arith
+
+pub bounds-centre-i : goal.bounds-centre-i
+bounds-centre-i c = omega arith
+
+pub offset_bounds-row-i : goal.offset_bounds-row-i
+offset_bounds-row-i c = omega arith
+
+pub bounds-row-i : goal.bounds-row-i
+bounds-row-i c = omega arith
+
+pub offset_bounds-row-i-else-bits-eq0 : goal.offset_bounds-row-i-else-bits-eq0
+offset_bounds-row-i-else-bits-eq0 c = omega arith
+
+pub bounds-row-i-else-bits-eq0 : goal.bounds-row-i-else-bits-eq0
+bounds-row-i-else-bits-eq0 c = omega arith
+
+pub overflow_step-i : goal.overflow_step-i
+overflow_step-i c = omega arith
+
+pub loop-i-smaller : goal.loop-i-smaller
+loop-i-smaller c = omega arith
+
+pub loop-i-preserved : goal.loop-i-preserved
+loop-i-preserved c =             let more = fill_step c.loop-i.invariant.3 (omega arith) in (
+      c.loop-i.invariant.0,
+      c.loop-i.invariant.1,
+      c.loop-i.invariant.2,
+      ⊎_elim
+          (λ w. subst (λ (v : List Float). Fill (corner_at c.args.centre c.args.e c.args.k) c.args.centre 0 c.args.channels v (c.loop-i.i + 1)) (sym w.1) (more _ c.loop-i.i (omega arith) (corner_here c.args.centre c.args.e c.args.k c.loop-i.i c.loop-i.bits (omega arith) c.loop-i.invariant.4 true (eq-eqb _ _ w.0.taken))))
+          (λ w. subst (λ (v : List Float). Fill (corner_at c.args.centre c.args.e c.args.k) c.args.centre 0 c.args.channels v (c.loop-i.i + 1)) (sym w.1) (more _ c.loop-i.i (omega arith) (corner_here c.args.centre c.args.e c.args.k c.loop-i.i c.loop-i.bits (omega arith) c.loop-i.invariant.4 false (ne_eqb _ _ w.0.left))))
+          c.if-bits-eq0.branch,
+      corner_after c.args.centre c.args.e c.args.k c.loop-i.i c.loop-i.bits (omega arith) c.loop-i.invariant.4,
+    )
+
+pub returns : goal.returns
+unfolding row_of
+returns c =             fill_end c.loop-i.invariant.3 (omega arith) ∙ ap (over c.args.centre 0) (corner_column c.args.centre c.args.e c.args.k c.args.channels (omega arith))

@@ -1,0 +1,29 @@
+use mathlib.Core.Path.{◌≡◌}
+use Prim.Native.Nat.{ℕ, ◌-◌, ◌≤◌, ◌<◌}
+use native.Mathlib.Omega.{arith}
+use borrow.Author.Count.{below_more}
+use lib.IntN.{pos}
+use lib.ListN.{length, get_or}
+use Rattle.counting_tree.specs.Domain.{Count}
+use Rattle.counting_tree.proofs.points.read_counts.Goals as goal
+
+pub loop-i-init : goal.loop-i-init
+loop-i-init c = (omega arith, λ k h. absurd (omega arith))
+
+pub offset_bounds-points-i : goal.offset_bounds-points-i
+offset_bounds-points-i c = omega arith
+
+pub bounds-points-i : goal.bounds-points-i
+bounds-points-i c = omega arith
+
+pub overflow_add-i : goal.overflow_add-i
+overflow_add-i c = omega arith
+
+pub loop-i-smaller : goal.loop-i-smaller
+loop-i-smaller c = omega arith
+
+pub loop-i-preserved : goal.loop-i-preserved
+loop-i-preserved c = (omega arith, below_more _ _ c.loop-i.invariant.1 c.count-1.given)
+
+pub returns : goal.returns
+returns c = let e : c.loop-i.i ≡ length c.args.points.now = omega arith in (e, λ k h. c.loop-i.invariant.1 k (omega arith))
