@@ -34,7 +34,7 @@ module _ (n : ℕ) (t appx side : Float) (cs qs : List Float) (d h e w : Float) 
       ∙ sym (intersection_is n t appx side cs qs)
 
 -- the elements of an array are values of the format
-each_held : (xs : List Float) (us : List Val) → shadow (each Float (FloatOf binary64).own xs us) → Held xs
+each_held : (xs : List Float) (us : List Val) → shadow (each Float (FloatOf binary64).own_val xs us) → Held xs
 each_held [] us p = no_value
 each_held (x ∷ xs) [] p = absurd p
 each_held (x ∷ xs) (u ∷ us) p = value (subst T (sym p.0.1) tt) (each_held xs us p.1)
@@ -48,8 +48,8 @@ half_held : (side : Float) → T (fits binary64 (half side))
 unfolding half
 half_held side = div-fits binary64 side (float 2)
 
-pub centre_outside : (n : ℕ) (appx side d e : Float) (c q : List Float) (us ws : List Val) → shadow (each Float (FloatOf binary64).own (map (λ (v : Float). v) c) us) → shadow (each Float (FloatOf binary64).own q ws) → fits binary64 appx ≡ true
+pub centre_outside : (n : ℕ) (appx side d e : Float) (c q : List Float) (us ws : List Val) → shadow (each Float (FloatOf binary64).own_val c us) → shadow (each Float (FloatOf binary64).own_val q ws) → fits binary64 appx ≡ true
     → d ≡ distance (take n q) (take n c) → e ≡ half side → le appx d ≡ true → lt (float 0) e ≡ true → lt (farthest (take n q) (corners (take n c) (half side))) appx ≡ false
 centre_outside n appx side d e c q us ws f g h D E l p =
-    centre_not_nearer (take n q) (take n c) (half side) appx (take_held n q (each_held q ws g)) (take_held n c (subst Held (map-id c) (each_held (map (λ (v : Float). v) c) us f))) (half_held side) (subst T (sym h) tt)
+    centre_not_nearer (take n q) (take n c) (half side) appx (take_held n q (each_held q ws g)) (take_held n c (each_held c us f)) (half_held side) (subst T (sym h) tt)
     (ap (lt (float 0)) (sym E) ∙ p) (subst T (sym (ap (le appx) (sym D) ∙ l)) tt)

@@ -25,11 +25,11 @@ use Rattle.counting_tree.specs.Domain.{Count}
 
 -- a count, read back
 pub read : (c : ℤ) → mag c < 2 ^ 15 → to_z w16 (of_z w16 c) ≡ c
-read c h = to_z-of_z (record { sfits = h })
+read c h = to_z-of_z {w = w16} (record { sfits = h })
 
 -- a count in 64 bits
 pub widened : (c : ℤ) → SFits w16 c → to_z w64 (of_z w64 (to_z w16 (of_z w16 c))) ≡ c
-widened c f = ap (λ (z : ℤ). to_z w64 (of_z w64 z)) (to_z-of_z f) ∙ to_z-of_z (sfits_widen tt f)
+widened c f = ap (λ (z : ℤ). to_z w64 (of_z w64 z)) (to_z-of_z {w = w16} f) ∙ to_z-of_z {w = w64} (sfits_widen tt f)
 
 -- ---- c + 2 ^ 15
 abbrev raise : ℤ → ℕ
@@ -152,7 +152,7 @@ take_map f (suc n) [] = refl
 take_map f (suc n) (x ∷ l) = ap (λ (r : List _). f x ∷ r) (take_map f n l)
 
 -- ---- the elements of an array are counts, and past its end stands 0
-pub held_count : (xs : List ℤ) (us : List Val) → shadow (each ℤ (e_s_int w16).ty.own xs us) → (k : ℕ) → Count (get_or xs k (pos 0))
+pub held_count : (xs : List ℤ) (us : List Val) → shadow (each ℤ (e_s_int w16).ty.own_val xs us) → (k : ℕ) → Count (get_or xs k (pos 0))
 held_count [] us p k = lit< tt
 held_count (x ∷ xs) [] p k = absurd p
 held_count (x ∷ xs) (u ∷ us) p zero = p.0.1

@@ -105,5 +105,5 @@ module _ {ps : List ℤ} {v : ValidParams} {n : ℕ} (r : Ready ps v n) (j : ℕ
       )
 
 -- a frame that is not near the box of the indexes `at` has others
-pub other_box : (side : Float) → Side side → (at : List ℤ) (cs : List Float) (xs : Frame) → cs ≡ map (centre side) at → Counts xs → (t : Bool) → t ≡ near_box (reach side) cs xs → not t ≡ true → false ≡ same_ints at (indexes side xs)
-other_box side s at cs xs e c t f g = sym (not_near side s at xs c (ap (λ (l : List Float). near_box (reach side) l xs) (sym e) ∙ sym f ∙ not_turn t true g))
+pub other_box : (side : Float) → Side side → (at : List ℤ) (cs : List Float) (xs : Frame) → cs ≡ map (centre side) at → Counts xs → (t : Bool) → t ≡ near_box (reach side) cs xs → t ≡ false → false ≡ same_ints at (indexes side xs)
+other_box side s at cs xs e c t f g = sym (not_near side s at xs c (ap (λ (l : List Float). near_box (reach side) l xs) (sym e) ∙ sym f ∙ g))

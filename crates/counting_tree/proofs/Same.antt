@@ -88,7 +88,7 @@ module _ {ps : List ℤ} {v : ValidParams} {n : ℕ} (r : Ready ps v n) (side : 
       long = let m = r.settings.scale.most in omega arith
 
       bits_same : of_z w64 x ≡ of_z w64 (get_or a k (pos 0)) → get_or a k (pos 0) ≡ get_or ys k (pos 0)
-      bits_same q = sym (to_z-of_z (record { sfits = ga })) ∙ ap (to_z w64) (sym q) ∙ index_here
+      bits_same q = sym (to_z-of_z {w = w64} (record { sfits = ga })) ∙ ap (to_z w64) (sym q) ∙ index_here
 
       same_bits : get_or a k (pos 0) ≡ get_or ys k (pos 0) → of_z w64 x ≡ of_z w64 (get_or a k (pos 0))
       same_bits q = ap (of_z w64) (x_is ∙ here ∙ sym q)

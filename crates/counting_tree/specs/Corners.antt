@@ -109,11 +109,13 @@ pub data Member (k : List Float) : List (List Float) → Type 0 where
 
 pub in_low : (x y : Float) (k : List Float) (ls : List (List Float)) → Member k ls → Member (x ∷ k) (both x y ls)
 unfolding both
+in_low x y k [] m = elim m [ ]
 in_low x y k (_ ∷ ls) here = here
 in_low x y k (l ∷ ls) (there m) = there (there (in_low x y k ls m))
 
 pub in_high : (x y : Float) (k : List Float) (ls : List (List Float)) → Member k ls → Member (y ∷ k) (both x y ls)
 unfolding both
+in_high x y k [] m = elim m [ ]
 in_high x y k (_ ∷ ls) here = there here
 in_high x y k (l ∷ ls) (there m) = there (there (in_high x y k ls m))
 

@@ -12,6 +12,7 @@ use Rattle.lists.specs.Words.{over}
 use Rattle.counting_tree.specs.Arrays.{corner_of, row_of}
 use Rattle.counting_tree.proofs.Arrays.{corner_at, corner_column, corner_here, corner_after}
 use Rattle.counting_tree.proofs.boxes.corner.Goals as goal
+use Rattle.counting_tree.proofs.boxes.corner.Goals.{then-bits-eq0, else-bits-eq0}
 
 pub loop-i-init : goal.loop-i-init
 loop-i-init c = (omega arith, c.well_formed.0.1.0.1, refl, fill_start (omega arith), refl)
@@ -45,10 +46,10 @@ loop-i-preserved c =             let more = fill_step c.loop-i.invariant.3 (omeg
       c.loop-i.invariant.0,
       c.loop-i.invariant.1,
       c.loop-i.invariant.2,
-      ⊎_elim
-          (λ w. subst (λ (v : List Float). Fill (corner_at c.args.centre c.args.e c.args.k) c.args.centre 0 c.args.channels v (c.loop-i.i + 1)) (sym w.1) (more _ c.loop-i.i (omega arith) (corner_here c.args.centre c.args.e c.args.k c.loop-i.i c.loop-i.bits (omega arith) c.loop-i.invariant.4 true (eq-eqb _ _ w.0.taken))))
-          (λ w. subst (λ (v : List Float). Fill (corner_at c.args.centre c.args.e c.args.k) c.args.centre 0 c.args.channels v (c.loop-i.i + 1)) (sym w.1) (more _ c.loop-i.i (omega arith) (corner_here c.args.centre c.args.e c.args.k c.loop-i.i c.loop-i.bits (omega arith) c.loop-i.invariant.4 false (ne_eqb _ _ w.0.left))))
-          c.if-bits-eq0.branch,
+      elim c.if-bits-eq0.branch [
+        | then-bits-eq0 w ↦ subst (λ (v : List Float). Fill (corner_at c.args.centre c.args.e c.args.k) c.args.centre 0 c.args.channels v (c.loop-i.i + 1)) (sym w.row-is) (more _ c.loop-i.i (omega arith) (corner_here c.args.centre c.args.e c.args.k c.loop-i.i c.loop-i.bits (omega arith) c.loop-i.invariant.4 true (eq-eqb _ _ w.if-bits-eq0.true)))
+        | else-bits-eq0 w ↦ subst (λ (v : List Float). Fill (corner_at c.args.centre c.args.e c.args.k) c.args.centre 0 c.args.channels v (c.loop-i.i + 1)) (sym w.row-is) (more _ c.loop-i.i (omega arith) (corner_here c.args.centre c.args.e c.args.k c.loop-i.i c.loop-i.bits (omega arith) c.loop-i.invariant.4 false (ne_eqb _ _ w.if-bits-eq0.false)))
+      ],
       corner_after c.args.centre c.args.e c.args.k c.loop-i.i c.loop-i.bits (omega arith) c.loop-i.invariant.4,
     )
 

@@ -41,7 +41,7 @@ pub returns-then-farthest_corner-appx : goal.returns-then-farthest_corner-appx
 returns-then-farthest_corner-appx c =         let cs = take c.args.channels c.args.b.centre in
     let qs = take c.args.channels c.args.q in
     let h = radius_is c.args.channels c.args.b.side c.root_of_small.result c.half_side-h.result c.root_of_small.ensures.value c.half_side-h.ensures in
-    let n = sym (length-map c.args.b.centre (λ (v : Float). v)) ∙ c.well_formed.0.1.1.0.1.0.1 in
+    let n = c.well_formed.0.1.1.0.1.0.1 in
     let w = farthest_is c.args.channels qs c.args.b.centre (half c.args.b.side) c.farthest_corner.result c.get_corners-all.result (omega arith) (omega (arith, n)) c.get_corners-all.ensures c.farthest_corner.ensures in
     by_tests c.args.channels c.args.t c.args.appx c.args.b.side cs qs c.distance-d.result c.half_side-h.result c.half_side-e.result c.farthest_corner.result c.distance-d.ensures h c.half_side-e.ensures w false false false true c.if-d-h.false c.if-d-h-2.false c.if-d-e.false c.if-farthest_corner-appx.true
 
@@ -49,6 +49,6 @@ pub returns-else-farthest_corner-appx : goal.returns-else-farthest_corner-appx
 returns-else-farthest_corner-appx c =         let cs = take c.args.channels c.args.b.centre in
     let qs = take c.args.channels c.args.q in
     let h = radius_is c.args.channels c.args.b.side c.root_of_small.result c.half_side-h.result c.root_of_small.ensures.value c.half_side-h.ensures in
-    let n = sym (length-map c.args.b.centre (λ (v : Float). v)) ∙ c.well_formed.0.1.1.0.1.0.1 in
+    let n = c.well_formed.0.1.1.0.1.0.1 in
     let w = farthest_is c.args.channels qs c.args.b.centre (half c.args.b.side) c.farthest_corner.result c.get_corners-all.result (omega arith) (omega (arith, n)) c.get_corners-all.ensures c.farthest_corner.ensures in
     by_tests c.args.channels c.args.t c.args.appx c.args.b.side cs qs c.distance-d.result c.half_side-h.result c.half_side-e.result c.farthest_corner.result c.distance-d.ensures h c.half_side-e.ensures w false false false false c.if-d-h.false c.if-d-h-2.false c.if-d-e.false c.if-farthest_corner-appx.false

@@ -12,6 +12,7 @@ use Rattle.counting_tree.specs.Box.{farthest}
 use Rattle.counting_tree.specs.Farthest.{largest_from, farthest_root}
 use Rattle.counting_tree.proofs.Arrays.{at_most_sixteen, scan_step, scan_done}
 use Rattle.counting_tree.proofs.boxes.farthest_corner.Goals as goal
+use Rattle.counting_tree.proofs.boxes.farthest_corner.Goals.{then-far-sum, else-far-sum}
 
 pub corner_count-n-requires : goal.corner_count-n-requires
 corner_count-n-requires c = omega arith
@@ -44,7 +45,7 @@ loop-k-preserved c =             let n = c.corner_count-n.result in
       c.loop-k.invariant.2,
       c.loop-k.invariant.3,
       c.loop-k.invariant.4,
-      ⊎_elim (λ w. step true (omega arith) c.square_sum-sum.ensures w.0.taken w.1) (λ w. step false (omega arith) c.square_sum-sum.ensures w.0.left w.1) c.if-far-sum.branch ∙ c.loop-k.invariant.5,
+      elim c.if-far-sum.branch [ then-far-sum w ↦ step true (omega arith) c.square_sum-sum.ensures w.if-far-sum.true w.far-is | else-far-sum w ↦ step false (omega arith) c.square_sum-sum.ensures w.if-far-sum.false w.far-is ] ∙ c.loop-k.invariant.5,
     )
 
 pub root-requires : goal.root-requires

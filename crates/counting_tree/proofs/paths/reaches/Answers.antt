@@ -1,4 +1,4 @@
-use native.Mathlib.Omega.{arith}
+use Rattle.std.proofs.Common.{refl, arith}
 use borrow.Author.Rules.{rules}
 use Rattle.counting_tree.proofs.Lent.{some_channels}
 use Rattle.counting_tree.proofs.Walk.{Walking, walk_start, walk_side, walk_disjoint, walk_covered, walk_last, walk_on}
@@ -14,10 +14,10 @@ pub classify-requires : goal.classify-requires
 classify-requires c = (c.requires.0, walk_side c.requires.0 c.loop-left.invariant, c.requires.1, c.requires.2)
 
 pub returns-in-Disjoint : goal.returns-in-Disjoint
-returns-in-Disjoint c = walk_disjoint c.requires.0 c.loop-left.invariant c.classify.ensures c.enum_told-1.given.1
+returns-in-Disjoint c = walk_disjoint c.requires.0 c.loop-left.invariant c.in-Disjoint.ensures refl
 
 pub returns-in-FullyCovered : goal.returns-in-FullyCovered
-returns-in-FullyCovered c = walk_covered c.requires.0 c.loop-left.invariant c.classify.ensures c.enum_told-in-FullyCovered-1.given.1
+returns-in-FullyCovered c = walk_covered c.requires.0 c.loop-left.invariant c.in-FullyCovered.ensures refl
 
 pub overflow_sub-left : goal.overflow_sub-left
 overflow_sub-left c = omega arith
@@ -26,16 +26,16 @@ pub loop-left-smaller : goal.loop-left-smaller
 loop-left-smaller c = omega arith
 
 pub loop-left-preserved : goal.loop-left-preserved
-loop-left-preserved c = walk_on c.requires.0 c.loop-left.invariant c.classify.ensures c.enum_told-in-Intersecting-1.given.1 c.loop-left-test.true c.half_side-side-in-Intersecting.ensures
+loop-left-preserved c = walk_on c.requires.0 c.loop-left.invariant c.in-Intersecting.ensures refl c.loop-left-test.true c.half_side-side-in-Intersecting.ensures
 
 pub classify-requires-2 : goal.classify-requires-2
 classify-requires-2 c = (c.requires.0, walk_side c.requires.0 c.loop-left.invariant, c.requires.1, c.requires.2)
 
 pub returns-in-Disjoint-classify : goal.returns-in-Disjoint-classify
-returns-in-Disjoint-classify c = walk_disjoint c.requires.0 c.loop-left.invariant c.classify-2.ensures c.enum_told-in-Disjoint-classify-1.given.1
+returns-in-Disjoint-classify c = walk_disjoint c.requires.0 c.loop-left.invariant c.in-Disjoint-classify.ensures refl
 
 pub returns-in-FullyCovered-classify : goal.returns-in-FullyCovered-classify
-returns-in-FullyCovered-classify c = walk_covered c.requires.0 c.loop-left.invariant c.classify-2.ensures c.enum_told-in-FullyCovered-classify-1.given.1
+returns-in-FullyCovered-classify c = walk_covered c.requires.0 c.loop-left.invariant c.in-FullyCovered-classify.ensures refl
 
 pub returns-in-Intersecting-classify : goal.returns-in-Intersecting-classify
-returns-in-Intersecting-classify c = walk_last c.requires.0 c.loop-left.invariant c.classify-2.ensures c.enum_told-in-Intersecting-classify-1.given.1 c.loop-left-test.false
+returns-in-Intersecting-classify c = walk_last c.requires.0 c.loop-left.invariant c.in-Intersecting-classify.ensures refl c.loop-left-test.false

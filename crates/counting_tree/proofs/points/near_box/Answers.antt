@@ -22,7 +22,7 @@ bounds-points-start c = (first_place c.requires.0 c.args.j c.requires.1).inside
 pub returns-then-v-lt2 : goal.returns-then-v-lt2
 unfolding of_bits of_int reach
 returns-then-v-lt2 c =         let centre = c.args.place.centre in
-    let long = sym (length-map centre (λ (x : Float). x)) ∙ c.well_formed.1.1.1.0.1.1.0.1.0.1 in
+    let long = c.well_formed.1.1.1.0.1.1.0.1.0.1 in
     let most = add binary64 c.half_side-reach.result (float 1) in
     let one = offs_first c.requires.0 c.args.j c.requires.1 most centre long _ refl c.off-arg-1.given c.off-one.result c.off-one.ensures.value in let z = offs_all c.requires.0 c.args.j c.requires.1 most centre long one (omega (arith, c.if-v-lt2.true)) (reach c.args.place.side) (ap (λ (x : Float). add binary64 x (float 1)) c.half_side-reach.ensures) in record { value = z.0; counts = z.1 }
 
@@ -38,7 +38,7 @@ bounds-points-start-2 c = (place c.requires.0 c.args.j 1 _ c.requires.1 c.if-v-l
 pub returns-then-v-lt3 : goal.returns-then-v-lt3
 unfolding of_bits of_int reach
 returns-then-v-lt3 c =         let centre = c.args.place.centre in
-    let long = sym (length-map centre (λ (x : Float). x)) ∙ c.well_formed.1.1.1.0.1.1.0.1.0.1 in
+    let long = c.well_formed.1.1.1.0.1.1.0.1.0.1 in
     let most = add binary64 c.half_side-reach.result (float 1) in
     let one = offs_first c.requires.0 c.args.j c.requires.1 most centre long _ refl c.off-arg-1.given c.off-one.result c.off-one.ensures.value in
     let two = offs_more c.requires.0 c.args.j c.requires.1 most centre long 1 _ c.if-v-lt2.false refl c.off-arg-2-1.given c.off.result c.off.ensures.value one in let z = offs_all c.requires.0 c.args.j c.requires.1 most centre long two (omega (arith, c.if-v-lt3.true)) (reach c.args.place.side) (ap (λ (x : Float). add binary64 x (float 1)) c.half_side-reach.ensures) in record { value = z.0; counts = z.1 }
@@ -55,7 +55,7 @@ bounds-points-start-3 c = (place c.requires.0 c.args.j 2 _ c.requires.1 c.if-v-l
 pub returns-then-v-lt4 : goal.returns-then-v-lt4
 unfolding of_bits of_int reach
 returns-then-v-lt4 c =         let centre = c.args.place.centre in
-    let long = sym (length-map centre (λ (x : Float). x)) ∙ c.well_formed.1.1.1.0.1.1.0.1.0.1 in
+    let long = c.well_formed.1.1.1.0.1.1.0.1.0.1 in
     let most = add binary64 c.half_side-reach.result (float 1) in
     let one = offs_first c.requires.0 c.args.j c.requires.1 most centre long _ refl c.off-arg-1.given c.off-one.result c.off-one.ensures.value in
     let two = offs_more c.requires.0 c.args.j c.requires.1 most centre long 1 _ c.if-v-lt2.false refl c.off-arg-2-1.given c.off.result c.off.ensures.value one in
@@ -73,7 +73,7 @@ bounds-points-start-4 c = (place c.requires.0 c.args.j 3 _ c.requires.1 c.if-v-l
 pub returns : goal.returns
 unfolding of_bits of_int reach
 returns c =         let centre = c.args.place.centre in
-    let long = sym (length-map centre (λ (x : Float). x)) ∙ c.well_formed.1.1.1.0.1.1.0.1.0.1 in
+    let long = c.well_formed.1.1.1.0.1.1.0.1.0.1 in
     let most = add binary64 c.half_side-reach.result (float 1) in
     let one = offs_first c.requires.0 c.args.j c.requires.1 most centre long _ refl c.off-arg-1.given c.off-one.result c.off-one.ensures.value in
     let two = offs_more c.requires.0 c.args.j c.requires.1 most centre long 1 _ c.if-v-lt2.false refl c.off-arg-2-1.given c.off.result c.off.ensures.value one in

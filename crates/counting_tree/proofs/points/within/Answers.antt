@@ -8,5 +8,4 @@ pub overflow_mul-result : goal.overflow_mul-result
 overflow_mul-result c = record { fits = omega (arith, product_fits c.requires.0) }
 
 pub returns : goal.returns
-returns c =         let e = c.square_apart.ensures in
-    within_is c.requires.0 c.args.i c.args.j c.square_apart.result e.0 c.requires.1 c.requires.2 e.1.1.0 e.1.1.1
+returns c = within_is c.requires.0 c.args.i c.args.j c.square_apart.result c.square_apart.ensures.value c.requires.1 c.requires.2 c.square_apart.ensures.counts.0 c.square_apart.ensures.counts.1
