@@ -1,0 +1,20 @@
+-- Past the last bucket the rest of the division is taken.
+use mathlib.Core.Path.{sym, ap, ◌∙◌}
+use Prim.Native.Nat.{ℕ, ◌+◌, ◌%◌}
+use native.Mathlib.Nat.{mod-lt, mod-eq_of_lt}
+use native.Mathlib.Omega.{arith}
+use Rattle.lists.specs.BucketLaws.{bucket_below}
+use Rattle.blocks.specs.Blocks.{bucket_at}
+use borrow.Author.Rules.{rules}
+use Rattle.blocks.proofs.bucket.Goals as goal
+
+pub overflow_add-b : goal.overflow_add-b
+overflow_add-b c = record { fits = omega (arith, c.bucket.ensures, c.requires, bucket_below c.args.size (c.args.h % 4294967296) (mod-lt c.args.h (omega arith)) c.requires.0) }
+
+pub returns-then-b-size : goal.returns-then-b-size
+unfolding bucket_at
+returns-then-b-size c = let e = ap (λ (b : ℕ). (b + c.args.along) % c.args.size) c.bucket.ensures in record { value = sym (mod-eq_of_lt c.if-b-size.true) ∙ e; upper_bound = c.if-b-size.true }
+
+pub returns : goal.returns
+unfolding bucket_at
+returns c = record { value = ap (λ (b : ℕ). (b + c.args.along) % c.args.size) c.bucket.ensures; upper_bound = mod-lt (c.bucket.result + c.args.along) c.requires.0 }
