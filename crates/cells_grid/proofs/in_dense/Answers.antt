@@ -1,0 +1,23 @@
+-- The size of the frame's cell, by where its frames begin and end among the places.
+use native.Mathlib.Omega.{arith}
+use Rattle.cells_grid.proofs.Core.{own_fits, own_end, own_start, own_dense}
+use borrow.Author.Rules.{rules}
+use Rattle.cells_grid.proofs.in_dense.Goals as goal
+
+pub word-c-requires : goal.word-c-requires
+word-c-requires c = own_fits c.requires
+
+pub cell_end-requires : goal.cell_end-requires
+cell_end-requires c = own_end c.requires c.word-c.ensures
+
+pub overflow_add-n : goal.overflow_add-n
+overflow_add-n c = omega (arith, own_end c.requires c.word-c.ensures)
+
+pub word-requires : goal.word-requires
+word-requires c = omega (arith, own_end c.requires c.word-c.ensures)
+
+pub overflow_sub-size : goal.overflow_sub-size
+overflow_sub-size c = own_start c.requires c.word-c.ensures c.word.ensures c.cell_end.ensures
+
+pub returns : goal.returns
+returns c = own_dense c.requires c.word-c.ensures c.word.ensures c.cell_end.ensures

@@ -1,0 +1,15 @@
+-- The invariant: the frames before i are told core or not, over the words with the pairs counted.
+use mathlib.Core.Path.{refl, ◌∙◌}
+use Prim.Native.Nat.{◌-◌, ◌*◌}
+use native.Mathlib.Omega.{arith}
+use Rattle.lists.specs.LoopLaws.{Fill, fill_step}
+use Rattle.counting_tree.specs.Ready.{geometry_at}
+use Rattle.cells_grid.specs.Arrangement.{core_bit}
+use Rattle.cells_grid.proofs.Core.{bits_start, bits_arranged, pairs_laid, pairs_length, pairs_word, pairs_end}
+use Rattle.cells_grid.proofs.label_by_pairs.Given as goal
+
+abbrev pub invariant-loop-i : goal.invariant-loop-i
+invariant-loop-i l = Fill (core_bit (geometry_at l.v l.n l.points)) l.initial.work (4 * l.n) l.n l.work l.i
+
+abbrev pub decreases-loop-i : goal.decreases-loop-i
+decreases-loop-i l = l.n - l.i

@@ -1,0 +1,10 @@
+-- Where every cell is dense every frame is core.
+use mathlib.Core.Path.{ap, ◌∙◌}
+use Prim.Native.Nat.{◌*◌}
+use Rattle.lists.specs.Words.{over}
+use Rattle.cells_grid.proofs.Core.{all_core}
+use borrow.Author.Rules.{rules}
+use Rattle.cells_grid.proofs.label_points.Goals as goal
+
+pub returns-then-all_dense : goal.returns-then-all_dense
+returns-then-all_dense c = c.fill_words.ensures ∙ ap (over c.args.work.now (4 * c.args.n)) (all_core c.requires.0 c.requires.1 c.all_dense.ensures c.if-all_dense.true)

@@ -1,0 +1,15 @@
+-- The invariant: of the row the stretches before this one are listed.
+use Prim.Native.Nat.{◌+◌}
+use native.Mathlib.Omega.{arith}
+use Rattle.cells_grid.specs.Listing.{reach_of}
+use Rattle.cells_grid.proofs.Sorting.{cells_few}
+use Rattle.blocks.specs.AroundLaws.{Rows, rows_low}
+use Rattle.cells_grid.proofs.Searching.{Row, InRow, row_start, row_length, row_arranged, row_sorted, row_runs, row_room, row_next, row_end}
+use borrow.Author.Rules.{rules}
+use Rattle.cells_grid.proofs.listing.list_row.Given as goal
+
+abbrev pub invariant-loop-to : goal.invariant-loop-to
+invariant-loop-to l = InRow l.v l.n l.points l.i l.after l.r l.marks l.mark l.m l.initial.work l.work l.from l.to l.rest l.more
+
+abbrev pub decreases-loop-to : goal.decreases-loop-to
+decreases-loop-to l = l.to + l.rest

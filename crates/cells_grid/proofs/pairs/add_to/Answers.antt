@@ -1,0 +1,11 @@
+-- What is written is the word's number and m more.
+use mathlib.Core.Path.{ap}
+use Prim.Native.Nat.{ℕ, ◌+◌}
+use lib.ListN.{set}
+use borrow.Author.Rules.{rules}
+use Rattle.cells_grid.proofs.pairs.add_to.Reads as reads
+use Rattle.lists.proofs.word.Reads as word-reads
+use Rattle.cells_grid.proofs.pairs.add_to.Goals as goal
+
+pub returns : goal.returns
+returns c = ap (λ (z : ℕ). set c.args.work.now c.args.at (z + c.args.m)) c.word.ensures
