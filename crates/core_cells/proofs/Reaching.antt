@@ -51,10 +51,10 @@ use Rattle.core_cells.proofs.Counting.{word_inside}
 use Rattle.core_cells.proofs.Rooted.{first_is, first_low}
 
 -- what is told, where it is not left open, is the answer. (The third variant has neither the first key nor the second.)
-pub settled_is : {a b : Bool} (told : IntersectionType) → (told ≡ Intersecting → ◌≡◌ {A = ℕ} 2 0 ⊎ ◌≡◌ {A = ℕ} 2 1) → on_box told b ≡ b → a ≡ on_box told false → a ≡ b
+pub settled_is : {a b : Bool} (told : IntersectionType) → (told ≡ Intersecting → ⊥) → on_box told b ≡ b → a ≡ on_box told false → a ≡ b
 settled_is Disjoint k t e = e ∙ t
 settled_is FullyCovered k t e = e ∙ t
-settled_is Intersecting k t e = absurd (⊎_elim (λ h. omega (arith, h)) (λ h. omega (arith, h)) (k refl))
+settled_is Intersecting k t e = absurd (k refl)
 
 -- where the frames do not come first, the box that is handed on is the root box
 pub not_first : {ps : List ℤ} {v : ValidParams} {n k : ℕ} {w : List ℕ} {q c : ℕ} {first : Bool} {root : Box}

@@ -1,0 +1,7 @@
+-- The edges of blocks of the width 1 are the counts themselves.
+use Rattle.core_cells.proofs.Spanning.{raised_value, raised_low}
+use borrow.Author.Rules.{rules}
+use Rattle.core_cells.proofs.spans.raised_at.Goals as goal
+
+pub returns : goal.returns
+returns c = record { value = raised_value c.requires.0 c.args.i c.requires.1 c.edges_at.ensures.value; bound = raised_low c.requires.0 c.args.i c.requires.1 c.edges_at.ensures.value c.edges_at.ensures.below }

@@ -1,0 +1,9 @@
+-- `approximate_range_counting` meets its contract.
+use Rattle.counting_tree.specs.Ready.{at_levels}
+use Rattle.tree_structure.proofs.approximate_range_counting.Goals as goal
+
+pub count_node-requires-clause-by_index : goal.count_node-requires-clause-by_index
+count_node-requires-clause-by_index c = rw at_levels at c.requires.by_index
+
+pub returns : goal.returns
+returns c = rw at_levels c.count_node.ensures
