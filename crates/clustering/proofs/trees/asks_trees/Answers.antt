@@ -1,0 +1,29 @@
+use Prim.Native.Nat.{◌-◌, ◌≤◌}
+use native.Mathlib.Omega.{arith}
+use Rattle.clustering.proofs.Asking.{listed_below}
+use borrow.Author.Rules.{rules}
+use Rattle.clustering.proofs.trees.asks_trees.Goals as goal
+
+pub loop-j-init : goal.loop-j-init
+loop-j-init c = omega arith
+
+pub overflow_mul-n : goal.overflow_mul-n
+overflow_mul-n c = omega (arith, c.requires.ready.0.few)
+
+pub overflow_add-n : goal.overflow_add-n
+overflow_add-n c = omega (arith, c.requires.ready.0.few, c.requires.ready.3)
+
+pub word-d-requires : goal.word-d-requires
+word-d-requires c = omega (arith, c.requires.ready.3, c.requires.ready.4)
+
+pub asks_tree-requires : goal.asks_tree-requires
+asks_tree-requires c = (c.requires.ready.0, c.requires.ready.1, c.requires.ready.2, listed_below c.args.work.now c.args.n c.args.m c.requires.ready.3 c.requires.ready.4 c.requires.by_index c.loop-j.j c.loop-j-test.true c.word-d.ensures)
+
+pub overflow_add-j : goal.overflow_add-j
+overflow_add-j c = omega (arith, c.requires.ready.0.few, c.requires.ready.3)
+
+pub loop-j-smaller : goal.loop-j-smaller
+loop-j-smaller c = omega arith
+
+pub loop-j-preserved : goal.loop-j-preserved
+loop-j-preserved c = omega arith

@@ -1,0 +1,31 @@
+-- `wanted` meets its contract, by what the words are after each of its calls.
+use native.Mathlib.Omega.{arith}
+use Rattle.clustering.proofs.Held.{few_cells, can_order, tree_held}
+use Rattle.clustering.proofs.Whole.{search₀}
+use Rattle.clustering.proofs.Asking.{unchanged, can_ask_some, cleared}
+use borrow.Author.Rules.{rules}
+use Rattle.clustering.proofs.trees.wanted.Goals as goal
+
+pub returns-then-not-may_lack : goal.returns-then-not-may_lack
+returns-then-not-may_lack c = unchanged c.requires.0 c.requires.1 c.requires.2 c.requires.3
+
+pub has_large-requires : goal.has_large-requires
+has_large-requires c = record { k_le_n = (few_cells c.requires.0 c.requires.1, c.requires.0.few, omega (arith, c.requires.2)); by_index = λ d h. (can_order c.requires.0 c.requires.1 h).3 }
+
+pub returns-then-not-has_large : goal.returns-then-not-has_large
+returns-then-not-has_large c = unchanged c.requires.0 c.requires.1 c.requires.2 c.requires.3
+
+pub returns-then-has_border : goal.returns-then-has_border
+returns-then-has_border c = unchanged c.requires.0 c.requires.1 c.requires.2 c.requires.3
+
+pub sort_cells-requires : goal.sort_cells-requires
+sort_cells-requires c = record { ready = (c.requires.0, c.requires.1.cored.cells, c.requires.2, c.requires.3); by_index = tree_held c.requires.0 c.requires.1 }
+
+pub unite_without_trees-requires : goal.unite_without_trees-requires
+unite_without_trees-requires c = let z = search₀ c.requires.0 c.requires.1 c.requires.2 c.requires.3 c.sort_cells.ensures in (c.requires.0, z.0, z.1.0, z.1.2, z.1.1)
+
+pub some_ask-r-requires : goal.some_ask-r-requires
+some_ask-r-requires c =  let z = can_ask_some c.requires.0 c.requires.1 c.requires.2 c.requires.3 c.sort_cells.ensures c.unite_without_trees.ensures.others c.unite_without_trees.ensures.runs in record { ready = z.0; n_in_bounds = z.1 }
+
+pub returns : goal.returns
+returns c = cleared c.requires.0 c.requires.1 c.requires.2 c.requires.3 c.sort_cells.ensures c.unite_without_trees.ensures.others c.some_ask-r.ensures c.clear_words.ensures
