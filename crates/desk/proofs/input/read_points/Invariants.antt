@@ -1,0 +1,14 @@
+-- A column of counts is filled.
+use Prim.Native.Nat.{◌-◌}
+use mathlib.Core.Path.{◌∙◌}
+use native.Mathlib.Omega.{arith}
+use mir.Facts.{to_z-of_z}
+use Rattle.lists.specs.LoopLaws.{Fill, fill_start, fill_step, fill_length, fill_end}
+use Rattle.desk.specs.Desk.{count_at}
+use Rattle.desk.proofs.input.read_points.Given as goal
+
+abbrev pub invariant-loop-i : goal.invariant-loop-i
+invariant-loop-i l = Fill (count_at l.input l.d) l.initial.points 0 l.n l.points l.i
+
+abbrev pub decreases-loop-i : goal.decreases-loop-i
+decreases-loop-i l = l.n - l.i
