@@ -1,47 +1,51 @@
 // Reads standard input to its end, and writes the answer to it to standard output.
 #![tactic(auto)]
 
-ghost use Rattle.std.specs.Prelude.{◌+◌, ◌≤◌, length};
-ghost use Rattle.io.specs.Counts.{IsPrefixLen};
+ghost use Rattle.std.specs.Prelude.{◌≡◌, ◌+◌, ◌≤◌, length, take};
 
-use libc::{STDIN_FILENO, STDOUT_FILENO};
+use std::io;
+use std::io::Read;
 
 // One byte more than the longest well-formed input: a longer one is seen to be malformed.
 const ROOM: usize = desk::MAX_INPUT + 1;
 
 // One read: how many bytes came, 0 at the end of the input, one more than there is room for where the read failed.
-fn read_some(room: &mut [u8]) -> usize
+fn read_some<R: Read>(input: &mut R, room: &mut [u8]) -> usize
     ensures { result ≤ length room.new + 1 }
 {
-    let got = libc::read(STDIN_FILENO, room);
-    if got < 0 {
-        return room.len() + 1;
+    match input.read(room) {
+        Ok(got) => got,
+        Err(_) => room.len() + 1,
     }
-    io::count(got, room)
 }
 
 // Whether another read dropped bytes of the input.
-fn skip_some() -> bool {
-    let mut rest = io::buffer();
-    libc::read(STDIN_FILENO, &mut rest) > 0
+fn skip_some<R: Read>(input: &mut R) -> bool {
+    let mut rest = [0u8; 4096];
+    match input.read(&mut rest) {
+        Ok(got) => got > 0,
+        Err(_) => false,
+    }
 }
 
-// Reads to the end of the input. Nothing says that an input ends, so the turns are counted down, from a number that no run uses up.
-fn skip_all() {
-    let mut turns = u64::MAX;
-    while turns > 0 && skip_some() {
-        turns -= 1;
+// Reads to the end of the input. Nothing says that an input ends, so the turns are counted, up to a number that no run reaches.
+fn skip_all<R: Read>(input: &mut R) {
+    for _ in 0..u64::MAX {
+        if !skip_some(input) {
+            return;
+        }
     }
 }
 
 // Reads the input to its end, and answers how many of its bytes stand in the buffer. Where a read fails the input is not known:
 // then all of the buffer is answered, which is longer than any well-formed input.
-fn read_all(buffer: &mut [u8]) -> usize
-    ensures { IsPrefixLen result buffer.new }
+fn read_all<R: Read>(input: &mut R, buffer: &mut [u8]) -> usize
+    ensures bound { result ≤ length buffer.new }
+    ensures count { result ≡ length (take result buffer.new) }
 {
     let mut n = 0;
     while n < buffer.len() {
-        let more = read_some(&mut buffer[n..]);
+        let more = read_some(input, &mut buffer[n..]);
         if more == 0 {
             return n;
         }
@@ -50,15 +54,13 @@ fn read_all(buffer: &mut [u8]) -> usize
         }
         n += more;
     }
-    skip_all();
+    skip_all(input);
     n
 }
 
-fn main() {
+fn main(rt: HostRuntime) -> io::Result<()> {
     let mut buffer = [0u8; ROOM];
-    let n = read_all(&mut buffer);
+    let n = read_all(&mut rt.stdin(), &mut buffer);
     let printed = desk::answer(&buffer[..n]);
-    let bytes = printed.bytes;
-    let len = printed.len;
-    io::write_all(STDOUT_FILENO, &bytes[..len]);
+    rt.write_all(&printed.bytes[..printed.len])
 }

@@ -10,8 +10,8 @@ ghost use Rattle.detail.specs.Prepared.{Prepared};
 
 use cells_grid::{PLACES, STARTS};
 use hyperparams::{Checked, Params, Refusal, ValidParams};
-use libc::{STDIN_FILENO, STDOUT_FILENO};
 use lists::Word;
+use std::io;
 
 // Where regions of the work words begin, in multiples of the number of frames: two more than the number of the first node of each cell's tree,
 // what the phases need to be 0 (fourteen regions), the nodes (over the last eight of these).
@@ -26,25 +26,28 @@ const HEAD: usize = 12;
 
 const SET_END: usize = 3;
 
+// More than the sets have.
+const CAPACITY: usize = 65536;
+
 // The counts of 64 frames of 4 channels, and the work words that they need with the largest s.
 const MAX_COUNTS: usize = 256;
 
 const MAX_WORDS: usize = 4096;
 
 // Writes some text.
-fn put(text: &[u8]) {
-    io::write_all(STDOUT_FILENO, text);
+fn put(rt: &impl Print, text: &[u8]) -> io::Result<()> {
+    rt.write_all(text)
 }
 
 // Writes some text and a number.
-fn put_number(text: &[u8], n: usize) {
-    io::write_all(STDOUT_FILENO, text);
-    io::print_decimal(STDOUT_FILENO, n as u64);
+fn put_number(rt: &impl Print, text: &[u8], n: usize) -> io::Result<()> {
+    rt.write_all(text)?;
+    print!(rt; "{n}")
 }
 
 // Writes a number of a list.
-fn put_item(n: usize) {
-    put_number(b" ", n);
+fn put_item(rt: &impl Print, n: usize) -> io::Result<()> {
+    put_number(rt, b" ", n)
 }
 
 // A hexadecimal digit's value.
@@ -144,21 +147,31 @@ fn word(work: &[Word], at: usize) -> usize
 }
 
 // Writes the words from a place up to another.
-fn show_words(work: &[Word], from: usize, to: usize) {
+fn show_words(rt: &impl Print, work: &[Word], from: usize, to: usize) -> io::Result<()> {
     for i in from..to {
-        put_item(word(work, i));
+        put_item(rt, word(work, i))?;
     }
+    Ok(())
 }
 
 // Writes the list of cell c.
-fn show_list(points: &[i16], v: ValidParams, n: usize, k: usize, work: &[Word], c: usize)
+fn show_list(
+    rt: &impl Print,
+    points: &[i16],
+    v: ValidParams,
+    n: usize,
+    k: usize,
+    work: &[Word],
+    c: usize,
+) -> io::Result<()>
     requires { Prepared points.now v n k work.now × (c < k) }
 {
     for d in 0..k {
         if cells_grid::is_listed(points, v, n, work, c, d) {
-            put_item(d);
+            put_item(rt, d)?;
         }
     }
+    Ok(())
 }
 
 // The level of node j in a tree whose first node is `root`: how many nodes before it have it in their subtree.
@@ -181,27 +194,34 @@ fn level_of(work: &[Word], nodes: usize, root: usize, j: usize) -> usize
 }
 
 // Writes node j of a tree: its level, its count and its first frame.
-fn show_node(work: &[Word], nodes: usize, root: usize, j: usize)
+fn show_node(rt: &impl Print, work: &[Word], nodes: usize, root: usize, j: usize) -> io::Result<()>
     requires { (nodes ≤ 65536) × (j ≤ 131072) }
 {
     let at = nodes + 4 * j;
-    put_number(b"  level ", level_of(work, nodes, root, j));
-    put_number(b" count ", word(work, at));
-    put_number(b" first ", word(work, at + 2));
-    put(b"\n");
+    put_number(rt, b"  level ", level_of(work, nodes, root, j))?;
+    put_number(rt, b" count ", word(work, at))?;
+    put_number(rt, b" first ", word(work, at + 2))?;
+    put(rt, b"\n")
 }
 
 // Writes the nodes of a tree from its first, `root`, up to `end`.
-fn show_nodes(work: &[Word], nodes: usize, root: usize, end: usize)
+fn show_nodes(
+    rt: &impl Print,
+    work: &[Word],
+    nodes: usize,
+    root: usize,
+    end: usize,
+) -> io::Result<()>
     requires { (nodes ≤ 65536) × (end ≤ 131072) }
 {
     for j in root..end {
-        show_node(work, nodes, root, j);
+        show_node(rt, work, nodes, root, j)?;
     }
+    Ok(())
 }
 
 // Writes the tree of cell c, if it has one, node by node.
-fn show_tree(work: &[Word], n: usize, c: usize)
+fn show_tree(rt: &impl Print, work: &[Word], n: usize, c: usize) -> io::Result<()>
     requires { (n ≤ 4096) × (5 * n + c < length work.now) }
 {
     if core_cells::is_core_cell(work, n, c) {
@@ -210,85 +230,129 @@ fn show_tree(work: &[Word], n: usize, c: usize)
             let root = begin - 2;
             let nodes = NODES * n;
             let size = word(work, nodes + 4 * root + 1);
-            show_nodes(work, nodes, root, root + size);
+            show_nodes(rt, work, nodes, root, root + size)?;
         }
     }
+    Ok(())
 }
 
 // Writes the frames of cell c.
-fn show_members(work: &[Word], n: usize, k: usize, c: usize)
+fn show_members(rt: &impl Print, work: &[Word], n: usize, k: usize, c: usize) -> io::Result<()>
     requires { (n ≤ 4096) × (c < k) × (k ≤ n) × (3 * n ≤ length work.now) }
 {
     let from = word(work, STARTS * n + c);
     let to = cells_grid::cell_end(work, n, k, c);
     if to <= n {
-        show_words(work, PLACES * n + from, PLACES * n + to);
+        show_words(rt, work, PLACES * n + from, PLACES * n + to)?;
     }
+    Ok(())
 }
 
 // Writes cell c: its first frame, its frames, its list and its tree.
-fn show_cell(points: &[i16], v: ValidParams, n: usize, k: usize, work: &[Word], c: usize)
+fn show_cell(
+    rt: &impl Print,
+    points: &[i16],
+    v: ValidParams,
+    n: usize,
+    k: usize,
+    work: &[Word],
+    c: usize,
+) -> io::Result<()>
     requires { Prepared points.now v n k work.now × (c < k) }
 {
-    put_number(b"cell ", c);
-    put_number(b": first ", word(work, n + c));
-    put(b", frames");
-    show_members(work, n, k, c);
-    put(b", list");
-    show_list(points, v, n, k, work, c);
-    put(b"\n");
-    show_tree(work, n, c);
+    put_number(rt, b"cell ", c)?;
+    put_number(rt, b": first ", word(work, n + c))?;
+    put(rt, b", frames")?;
+    show_members(rt, work, n, k, c)?;
+    put(rt, b", list")?;
+    show_list(rt, points, v, n, k, work, c)?;
+    put(rt, b"\n")?;
+    show_tree(rt, work, n, c)
 }
 
 // Writes how many frames of each cell lie within the tolerance of frame i.
-fn show_in_range(points: &[i16], v: ValidParams, n: usize, k: usize, work: &[Word], i: usize)
+fn show_in_range(
+    rt: &impl Print,
+    points: &[i16],
+    v: ValidParams,
+    n: usize,
+    k: usize,
+    work: &[Word],
+    i: usize,
+) -> io::Result<()>
     requires { Prepared points.now v n k work.now × (i < n) }
 {
     for c in 0..k {
-        put_item(cells_grid::points_in_range(points, v, n, work, k, i, c));
+        put_item(rt, cells_grid::points_in_range(points, v, n, work, k, i, c))?;
     }
+    Ok(())
 }
 
 // Writes the cells in whose trees frame i has a count that is not 0.
-fn show_counted(points: &[i16], v: ValidParams, n: usize, k: usize, work: &[Word], i: usize)
+fn show_counted(
+    rt: &impl Print,
+    points: &[i16],
+    v: ValidParams,
+    n: usize,
+    k: usize,
+    work: &[Word],
+    i: usize,
+) -> io::Result<()>
     requires { Prepared points.now v n k work.now × (i < n) }
 {
     for c in 0..k {
         if lists::word(work, TREES * n + c) > 1 {
             let counted = core_cells::tree_count(points, v, n, k, work, i, c);
             if counted.count > 0 {
-                put_item(c);
+                put_item(rt, c)?;
             }
         }
     }
+    Ok(())
 }
 
 // Writes frame i: its cell, whether it is core, how many frames of each cell lie within the tolerance, and the trees that count some.
-fn show_frame(points: &[i16], v: ValidParams, n: usize, k: usize, work: &[Word], i: usize)
+fn show_frame(
+    rt: &impl Print,
+    points: &[i16],
+    v: ValidParams,
+    n: usize,
+    k: usize,
+    work: &[Word],
+    i: usize,
+) -> io::Result<()>
     requires { Prepared points.now v n k work.now × (i < n) }
 {
-    put_number(b"frame ", i);
-    put_number(b": cell ", word(work, i));
+    put_number(rt, b"frame ", i)?;
+    put_number(rt, b": cell ", word(work, i))?;
     if cells_grid::is_core(work, n, i) {
-        put(b", core");
+        put(rt, b", core")?;
     }
-    put(b", in range");
-    show_in_range(points, v, n, k, work, i);
-    put(b", counted in");
-    show_counted(points, v, n, k, work, i);
-    put(b"\n");
+    put(rt, b", in range")?;
+    show_in_range(rt, points, v, n, k, work, i)?;
+    put(rt, b", counted in")?;
+    show_counted(rt, points, v, n, k, work, i)?;
+    put(rt, b"\n")
 }
 
 // Writes every cell, then every frame.
-fn show_all(points: &[i16], v: ValidParams, n: usize, k: usize, work: &[Word])
+fn show_all(
+    rt: &impl Print,
+    points: &[i16],
+    v: ValidParams,
+    n: usize,
+    k: usize,
+    work: &[Word],
+) -> io::Result<()>
     requires { Prepared points.now v n k work.now }
 {
     for c in 0..k {
-        show_cell(points, v, n, k, work, c);
+        show_cell(rt, points, v, n, k, work, c)?;
     }
     for i in 0..n {
-        show_frame(points, v, n, k, work, i);
+        show_frame(rt, points, v, n, k, work, i)?;
     }
+    Ok(())
 }
 
 // Finds the cells and their core frames, and builds the tree of every core cell. Returns the number of cells.
@@ -304,21 +368,21 @@ fn prepare(points: &[i16], v: ValidParams, n: usize, work: &mut [Word]) -> usize
 }
 
 // Writes why a set is refused.
-fn show_refusal(refusal: Refusal) {
-    put_number(b"refused ", hyperparams::number(refusal) as usize);
-    put(b"\n");
+fn show_refusal(rt: &impl Print, refusal: Refusal) -> io::Result<()> {
+    put_number(rt, b"refused ", hyperparams::number(refusal) as usize)?;
+    put(rt, b"\n")
 }
 
 // Writes all of a set, or the number of its refusal.
-fn show_run(points: &[i16], p: Params, work: &mut [Word]) {
+fn show_run(rt: &impl Print, points: &[i16], p: Params, work: &mut [Word]) -> io::Result<()> {
     let frames = hyperparams::MAX_FRAMES;
     let checked = hyperparams::check(p, points.len(), frames, frames, work.len());
     match checked {
-        Checked::Refused(refusal) => show_refusal(refusal),
+        Checked::Refused(refusal) => show_refusal(rt, refusal),
         Checked::Valid(v) => {
             let n = points.len() / v.channels;
             let k = prepare(points, v, n, work);
-            show_all(points, v, n, k, work);
+            show_all(rt, points, v, n, k, work)
         }
     }
 }
@@ -334,26 +398,32 @@ fn slack_of(power: u16) -> f64 {
 }
 
 // Writes the settings.
-fn show_settings(channels: usize, min_points: usize, t: usize, s: usize) {
-    put_number(b"channels ", channels);
-    put_number(b", min_points ", min_points);
-    put_number(b", tolerance ", t);
-    put_number(b", s ", s);
-    put(b"\n");
+fn show_settings(
+    rt: &impl Print,
+    channels: usize,
+    min_points: usize,
+    t: usize,
+    s: usize,
+) -> io::Result<()> {
+    put_number(rt, b"channels ", channels)?;
+    put_number(rt, b", min_points ", min_points)?;
+    put_number(rt, b", tolerance ", t)?;
+    put_number(rt, b", s ", s)?;
+    put(rt, b"\n")
 }
 
 // Writes the set from a place up to another.
-fn show_set(text: &[u8], from: usize, to: usize)
+fn show_set(rt: &impl Print, text: &[u8], from: usize, to: usize) -> io::Result<()>
     requires { (from ≤ to) × (to ≤ length text.now) }
 {
     if to - from < HEAD {
-        return;
+        return Ok(());
     }
     let channels = two_digits(text, from);
     let min_points = four_digits(text, from + 2);
     let t = four_digits(text, from + 6);
     let s = two_digits(text, from + 10) % 16;
-    show_settings(channels, min_points, t, s);
+    show_settings(rt, channels, min_points, t, s)?;
     let p = Params {
         channels,
         min_points,
@@ -363,30 +433,31 @@ fn show_set(text: &[u8], from: usize, to: usize)
     let mut points = [0i16; MAX_COUNTS];
     let m = read_points(text, from + HEAD, to, &mut points);
     let mut work = [0u16; MAX_WORDS];
-    show_run(&points[..m], p, &mut work);
+    show_run(rt, &points[..m], p, &mut work)
 }
 
 // Writes the line after a set.
-fn end_set() {
-    put(b"--\n");
+fn end_set(rt: &impl Print) -> io::Result<()> {
+    put(rt, b"--\n")
 }
 
 // Writes every set.
-fn show_sets(text: &[u8]) {
+fn show_sets(rt: &impl Print, text: &[u8]) -> io::Result<()> {
     let mut from = 0;
     while from < text.len() {
         let to = set_end(text, from);
-        show_set(text, from, to);
+        show_set(rt, text, from, to)?;
         if text.len() - to < SET_END {
-            return;
+            return Ok(());
         }
-        end_set();
+        end_set(rt)?;
         from = to + SET_END;
     }
+    Ok(())
 }
 
-fn main() {
-    let mut buffer = io::large_buffer();
-    let n = io::read_full(STDIN_FILENO, &mut buffer);
-    show_sets(&buffer[..n]);
+fn main(rt: HostRuntime) -> io::Result<()> {
+    let mut buffer = [0u8; CAPACITY];
+    let n = streams::read_full(&mut rt.stdin(), &mut buffer)?;
+    show_sets(&rt, &buffer[..n])
 }

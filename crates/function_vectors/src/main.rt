@@ -7,7 +7,7 @@
 ghost use Rattle.std.specs.Prelude.{◌+◌, ◌<◌, ◌≤◌, length};
 
 use counting_tree::{Box, IntersectionType};
-use libc::{STDIN_FILENO, STDOUT_FILENO};
+use std::io;
 
 const LINE: usize = 137;
 
@@ -183,14 +183,12 @@ fn box_agrees(line: &[u8; LINE]) -> u64
 }
 
 // Writes how many of a kind agree.
-fn report(right: u64, all: u64, what: &[u8]) {
-    io::print_decimal(STDOUT_FILENO, right);
-    io::write_all(STDOUT_FILENO, b" of ");
-    io::print_decimal(STDOUT_FILENO, all);
-    io::write_all(STDOUT_FILENO, what);
+fn report(rt: &impl Print, right: u64, all: u64, what: &[u8]) -> io::Result<()> {
+    print!(rt; "{right} of {all}")?;
+    rt.write_all(what)
 }
 
-fn main() {
+fn main(rt: HostRuntime) -> io::Result<()> {
     let mut line = [0u8; LINE];
     let mut roots: u64 = 0;
     let mut indexes: u64 = 0;
@@ -200,7 +198,7 @@ fn main() {
     let mut right_boxes: u64 = 0;
     let mut i: usize = 0;
     while i < MAX_LINES {
-        let n = io::read_full(STDIN_FILENO, &mut line);
+        let n = streams::read_full(&mut rt.stdin(), &mut line)?;
         if n < LINE {
             i = MAX_LINES;
         } else {
@@ -213,7 +211,7 @@ fn main() {
             i += 1;
         }
     }
-    report(right_roots, roots, b" roots agree\n");
-    report(right_indexes, indexes, b" indexes agree\n");
-    report(right_boxes, boxes, b" boxes agree\n");
+    report(&rt, right_roots, roots, b" roots agree\n")?;
+    report(&rt, right_indexes, indexes, b" indexes agree\n")?;
+    report(&rt, right_boxes, boxes, b" boxes agree\n")
 }

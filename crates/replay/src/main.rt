@@ -4,7 +4,7 @@
 
 ghost use Rattle.std.specs.Prelude.{◌≡◌, ◌+◌, ◌≤◌, min, length};
 
-use libc::{STDIN_FILENO, STDOUT_FILENO};
+use std::io;
 
 // More than the vectors have.
 const CAPACITY: usize = 393216;
@@ -66,14 +66,12 @@ fn agrees(input: &[u8], expected: &[u8]) -> bool {
     same(&bytes, printed.len, expected)
 }
 
-fn report(number: usize) {
-    io::write_all(STDOUT_FILENO, b"vector ");
-    io::print_decimal(STDOUT_FILENO, number as u64);
-    io::write_all(STDOUT_FILENO, b" differs\n");
+fn report(rt: &impl Print, number: usize) -> io::Result<()> {
+    println!(rt; "vector {number} differs")
 }
 
 // Runs every vector, names those that differ, and writes how many agree.
-fn replay(text: &[u8]) {
+fn replay(rt: &impl Print, text: &[u8]) -> io::Result<()> {
     let end = text.len();
     let mut at: usize = 0;
     let mut count: usize = 0;
@@ -87,18 +85,15 @@ fn replay(text: &[u8]) {
         if agrees(&text[at..input_end], &text[start..output_end]) {
             right += 1;
         } else {
-            report(count);
+            report(rt, count)?;
         }
         at = next;
     }
-    io::print_decimal(STDOUT_FILENO, right as u64);
-    io::write_all(STDOUT_FILENO, b" of ");
-    io::print_decimal(STDOUT_FILENO, count as u64);
-    io::write_all(STDOUT_FILENO, b" agree\n");
+    println!(rt; "{right} of {count} agree")
 }
 
-fn main() {
+fn main(rt: HostRuntime) -> io::Result<()> {
     let mut buffer = [0u8; CAPACITY];
-    let n = io::read_full(STDIN_FILENO, &mut buffer);
-    replay(&buffer[..n]);
+    let n = streams::read_full(&mut rt.stdin(), &mut buffer)?;
+    replay(&rt, &buffer[..n])
 }
