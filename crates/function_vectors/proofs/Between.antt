@@ -1,12 +1,5 @@
 -- A float from 2 ^ -13 to 2 ^ 16 is a side.
-use mathlib.Core.Path.{◌≡◌, refl, sym, ◌∙◌, subst}
-use mathlib.Core.Bool.{Bool, true, false, not, true≢false}
-use Prim.Native.Nat.{ℕ, ◌+◌, ◌*◌, ◌^◌, ◌≤◌, ◌<◌}
-use native.Mathlib.Nat.{mul-one}
-use native.Mathlib.Omega.{arith}
-use lib.Dec.{T, nltb→le}
-use lib.Pow.{pow_pos}
-use lib.IntN.{pos, negsuc}
+use Rattle.std.proofs.Common.{◌≡◌, ℕ, ◌+◌, ◌*◌, ◌^◌, ◌≤◌, ◌<◌, Bool, true, false, not, T, pos, negsuc, refl, sym, ◌∙◌, subst, true≢false, mul-one, arith, pow_pos, nltb→le}
 use lib.Ieee.{Float, nan, inf, fin, binary64, fits, lt, ne}
 use Rattle.ieee754.specs.Value.{unit, mag, sign, Good, Is, of_value}
 use Rattle.ieee754.specs.Ops.{plus, minus, plus_pos, minus_pos, plus_neg}
