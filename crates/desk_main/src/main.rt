@@ -1,7 +1,8 @@
 // Reads standard input to its end, and writes the answer to it to standard output.
 #![tactic(auto)]
 
-ghost use Rattle.std.specs.Prelude.{◌≡◌, ◌+◌, ◌≤◌, length, take};
+ghost use Rattle.std.specs.Prelude.{◌≡◌, ◌+◌, ◌<◌, ◌≤◌, length, take, IfSome};
+ghost use Rattle.std.specs.Io.KnownBytes.{Consumes, IsAtEnd};
 
 use std::io;
 use std::io::Read;
@@ -11,7 +12,9 @@ const ROOM: usize = desk::MAX_INPUT + 1;
 
 // One read: how many bytes came, 0 at the end of the input, one more than there is room for where the read failed.
 fn read_some<R: Read>(input: &mut R, room: &mut [u8]) -> usize
-    ensures { result ≤ length room.new + 1 }
+    ensures bound { result ≤ length room.new + 1 }
+    ensures bytes { result ≤ length room.new → Consumes (R.remaining input.old) (R.remaining input.new) (take result room.new) }
+    ensures end { result ≡ 0 → 0 < length room.new → IsAtEnd (R.remaining input.new) }
 {
     match input.read(room) {
         Ok(got) => got,
@@ -38,10 +41,11 @@ fn skip_all<R: Read>(input: &mut R) {
 }
 
 // Reads the input to its end, and answers how many of its bytes stand in the buffer. Where a read fails the input is not known:
-// then all of the buffer is answered, which is longer than any well-formed input.
+// then all of the buffer is answered, which is longer than any well-formed input. Less than all of it is the whole input.
 fn read_all<R: Read>(input: &mut R, buffer: &mut [u8]) -> usize
     ensures bound { result ≤ length buffer.new }
     ensures count { result ≡ length (take result buffer.new) }
+    ensures whole { result < length buffer.new → IfSome (R.remaining input.old) (λ xs. take result buffer.new ≡ xs) }
 {
     let mut n = 0;
     while n < buffer.len() {
