@@ -1,6 +1,10 @@
--- What the words hold after each step of `prepare`, and what the table of refusals hands on.
-use Rattle.std.proofs.Common.{◌≡◌, ℕ, ◌*◌, ◌/◌, ◌<◌, ◌≤◌, List, ℤ, length, replicate, sym, subst, ◌∙◌, arith}
-use Rattle.std.proofs.lemmas.List.{length-replicate}
+-- What the words hold after each step of `prepare`, what the functions that write them ask, and what the table of refusals hands on.
+use mathlib.Core.Path.{◌≡◌, sym, subst, ◌∙◌}
+use mathlib.Core.List.{List}
+use Prim.Native.Nat.{ℕ, ◌*◌, ◌/◌, ◌<◌, ◌≤◌}
+use native.Mathlib.Omega.{arith}
+use lib.IntN.{ℤ}
+use lib.ListN.{length, replicate, length-replicate}
 use Rattle.lists.specs.Words.{over, column, Clear}
 use Rattle.lists.specs.ListLaws.{length_numbers}
 use Rattle.lists.specs.WordLaws.{over_length}
@@ -37,6 +41,9 @@ module _ {ps : List ℤ} {v : ValidParams} {n : ℕ} (r : Ready ps v n) (w : Lis
   all_clear : Clear w₀ (10 * n) (14 * n)
   all_clear = rw e₀ (made_clear w (10 * n) (14 * n) (omega arith))
 
+  pub clear_populate : Clear w₀ (10 * n) (3 * n) × Clear w₀ (16 * n) (8 * n)
+  clear_populate = (clear_within w₀ (10 * n) (14 * n) (10 * n) (3 * n) all_clear (omega arith) (omega arith), clear_within w₀ (10 * n) (14 * n) (16 * n) (8 * n) all_clear (omega arith) (omega arith))
+
   module _ {k : ℕ} {w₁ : List ℕ} (e : k ≡ length (cells g)) (e₁ : w₁ ≡ populated g w₀) where
     within₁ : Within (4 * n) w₀ w₁
     within₁ = subst (λ (x : ℕ). Within (4 * x) w₀ w₁) f (rw e₁ (populated_within g (ready_lawful r) w₀ (omega (arith, f, h₀))))
@@ -59,6 +66,14 @@ module _ {ps : List ℤ} {v : ValidParams} {n : ℕ} (r : Ready ps v n) (w : Lis
 
       pub prepared₃ : {w₃ : List ℕ} → w₃ ≡ over (over w₂ (5 * n) (column (tree_word g 0) k)) (16 * n) (forest_to g 0 k) → 16 * n ≤ length w₃ → Prepared ps v n k w₃
       prepared₃ e₃ h₃ = record { ready = r; grown = rw e₃ (grown cored₂ f (omega (arith, h₀, within₂.size)) 0); few = words_count g (ready_lawful r) cored₂.cells n f; room = h₃ }
+
+module _ {ps : List ℤ} {v : ValidParams} {n k : ℕ} {w : List ℕ} (p : Prepared ps v n k w) where
+  -- the same by the number of cells
+  pub all_arranged : Arranged (geometry_at v n ps) (length (cells (geometry_at v n ps))) w
+  all_arranged = let A = p.grown.cored.cells in subst (λ (m : ℕ). Arranged (geometry_at v n ps) m w) A.count A
+
+  pub cell_below : {c : ℕ} → c < k → c < length (cells (geometry_at v n ps))
+  cell_below {c} h = subst (λ (m : ℕ). c < m) p.grown.cored.cells.count h
 
 -- what the table accepts, with labels and kinds for every frame
 module _ (p : Params) (ps : List ℤ) (work : ℕ) {r : Checked} {v : ValidParams} (a : r ≡ checked_of p (length ps) max_frames max_frames work) (b : r ≡ Valid v) where
