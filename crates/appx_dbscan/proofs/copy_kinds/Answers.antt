@@ -9,29 +9,11 @@ use Rattle.appx_dbscan.proofs.copy_kinds.Goals as goal
 pub loop-i-init : goal.loop-i-init
 loop-i-init c = fill_start (omega arith)
 
-pub overflow_mul-kinds : goal.overflow_mul-kinds
-overflow_mul-kinds c = omega arith
-
-pub overflow_add-kinds : goal.overflow_add-kinds
-overflow_add-kinds c = omega arith
-
-pub offset_bounds-work-n : goal.offset_bounds-work-n
-offset_bounds-work-n c = omega arith
-
-pub bounds-work-n : goal.bounds-work-n
-bounds-work-n c = omega arith
-
 pub overflow_cast-kinds : goal.overflow_cast-kinds
 overflow_cast-kinds c = omega (arith, part_below 3 c.args.work.now (9 * c.args.n) c.args.n c.loop-i.i c.requires.2 (omega arith) c.loop-i-test.true)
 
 pub bounds-kinds-i : goal.bounds-kinds-i
 bounds-kinds-i c = omega (arith, fill_length c.loop-i.invariant)
-
-pub overflow_add-i : goal.overflow_add-i
-overflow_add-i c = omega arith
-
-pub loop-i-smaller : goal.loop-i-smaller
-loop-i-smaller c = omega arith
 
 pub loop-i-preserved : goal.loop-i-preserved
 loop-i-preserved c = fill_step c.loop-i.invariant c.loop-i-test.true _ _ (omega arith) refl

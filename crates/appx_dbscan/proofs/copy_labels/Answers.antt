@@ -8,29 +8,11 @@ use Rattle.appx_dbscan.proofs.copy_labels.Goals as goal
 pub loop-i-init : goal.loop-i-init
 loop-i-init c = fill_start (omega arith)
 
-pub overflow_mul-labels : goal.overflow_mul-labels
-overflow_mul-labels c = omega arith
-
-pub overflow_add-labels : goal.overflow_add-labels
-overflow_add-labels c = omega arith
-
-pub offset_bounds-work-n : goal.offset_bounds-work-n
-offset_bounds-work-n c = omega arith
-
-pub bounds-work-n : goal.bounds-work-n
-bounds-work-n c = omega arith
-
 pub offset_bounds-labels-i : goal.offset_bounds-labels-i
 offset_bounds-labels-i c = omega (arith, fill_length c.loop-i.invariant)
 
 pub bounds-labels-i : goal.bounds-labels-i
 bounds-labels-i c = omega (arith, fill_length c.loop-i.invariant)
-
-pub overflow_add-i : goal.overflow_add-i
-overflow_add-i c = omega arith
-
-pub loop-i-smaller : goal.loop-i-smaller
-loop-i-smaller c = omega arith
 
 pub loop-i-preserved : goal.loop-i-preserved
 loop-i-preserved c = fill_step c.loop-i.invariant c.loop-i-test.true _ _ (omega arith) refl

@@ -17,23 +17,11 @@ counted f m i b e t =
 pub loop-i-init : goal.loop-i-init
 loop-i-init c = (omega arith, refl, omega arith)
 
-pub overflow_add-next : goal.overflow_add-next
-overflow_add-next c = omega arith
-
 pub is_core-requires : goal.is_core-requires
 is_core-requires c = (omega arith, omega arith)
 
-pub overflow_add-m : goal.overflow_add-m
-overflow_add-m c = omega arith
-
-pub loop-i-smaller-then-is_core : goal.loop-i-smaller-then-is_core
-loop-i-smaller-then-is_core c = omega arith
-
 pub loop-i-preserved-then-is_core : goal.loop-i-preserved-then-is_core
 loop-i-preserved-then-is_core c = (omega arith, counted _ c.loop-i.m c.loop-i.i true c.loop-i.invariant.1 (sym c.is_core.ensures ∙ c.if-is_core.true), omega arith)
-
-pub loop-i-smaller : goal.loop-i-smaller
-loop-i-smaller c = omega arith
 
 pub loop-i-preserved : goal.loop-i-preserved
 loop-i-preserved c = (omega arith, sym (add-zero _) ∙ counted _ c.loop-i.m c.loop-i.i false c.loop-i.invariant.1 (sym c.is_core.ensures ∙ c.if-is_core.false), omega arith)

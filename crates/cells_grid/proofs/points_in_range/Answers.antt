@@ -12,9 +12,6 @@ use Rattle.cells_grid.proofs.points_in_range.Goals as goal
 pub cell_end-end-requires : goal.cell_end-end-requires
 cell_end-end-requires c = range_fits c.requires
 
-pub overflow_mul-n : goal.overflow_mul-n
-overflow_mul-n c = omega arith
-
 pub overflow_add-n : goal.overflow_add-n
 overflow_add-n c = omega (arith, range_fits c.requires)
 
@@ -23,12 +20,6 @@ word-p-requires c = omega (arith, range_fits c.requires)
 
 pub loop-p-init : goal.loop-p-init
 loop-p-init c = range_scan c.requires c.word-p.ensures c.cell_end-end.ensures
-
-pub overflow_add-next : goal.overflow_add-next
-overflow_add-next c = omega arith
-
-pub overflow_mul-n-in-loop-p : goal.overflow_mul-n-in-loop-p
-overflow_mul-n-in-loop-p c = omega arith
 
 pub overflow_add-n-in-loop-p : goal.overflow_add-n-in-loop-p
 overflow_add-n-in-loop-p c = omega (arith, range_end c.requires c.word-p.ensures c.cell_end-end.ensures)
@@ -42,15 +33,9 @@ within-requires c =         (c.requires.0, c.requires.2, range_below c.requires 
 pub overflow_add-m : goal.overflow_add-m
 overflow_add-m c = omega (arith, c.loop-p.invariant.low)
 
-pub loop-p-smaller-then-within : goal.loop-p-smaller-then-within
-loop-p-smaller-then-within c = omega arith
-
 pub loop-p-preserved-then-within : goal.loop-p-preserved-then-within
 loop-p-preserved-then-within c =     let i = c.loop-p.invariant in
     scan_hit i c.loop-p-test.true c.word-j.ensures (sym c.within.ensures ∙ c.if-within.true)
-
-pub loop-p-smaller : goal.loop-p-smaller
-loop-p-smaller c = omega arith
 
 pub loop-p-preserved : goal.loop-p-preserved
 loop-p-preserved c =     let i = c.loop-p.invariant in

@@ -14,12 +14,6 @@ loop-c-init c = growing_start (ripe c.requires.ready.0 c.requires.ready.1 c.requ
 pub build_tree-next-requires : goal.build_tree-next-requires
 build_tree-next-requires c = record { ready = (c.requires.ready.0, growing_cored c.loop-c.invariant); c_lt_k = (c.loop-c-test.true, c.loop-c.invariant.place); s_in_bounds = (omega (arith, growing_length c.loop-c.invariant, c.requires.s_in_bounds.0), growing_blank c.loop-c.invariant) }
 
-pub overflow_add-c : goal.overflow_add-c
-overflow_add-c c = omega arith
-
-pub loop-c-smaller : goal.loop-c-smaller
-loop-c-smaller c = omega arith
-
 pub loop-c-preserved : goal.loop-c-preserved
 loop-c-preserved c =         growing_step c.loop-c.invariant c.loop-c-test.true c.build_tree-next.ensures.value c.build_tree-next.ensures.work_after
 

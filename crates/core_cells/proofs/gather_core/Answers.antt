@@ -37,14 +37,8 @@ bounds-work-at c =         omega (arith, gathering_low c.loop-p.invariant, gathe
 pub overflow_add-m : goal.overflow_add-m
 overflow_add-m c =         omega (arith, gathering_low c.loop-p.invariant, c.loop-p.invariant.can.places, c.loop-p.invariant.can.few)
 
-pub loop-p-smaller-then-is_core : goal.loop-p-smaller-then-is_core
-loop-p-smaller-then-is_core c = omega arith
-
 pub loop-p-preserved-then-is_core : goal.loop-p-preserved-then-is_core
 loop-p-preserved-then-is_core c =         gathering_hit c.loop-p.invariant c.loop-p-test.true _ c.word-i.ensures (sym c.if-is_core.true ∙ c.is_core.ensures)
-
-pub loop-p-smaller : goal.loop-p-smaller
-loop-p-smaller c = omega arith
 
 pub loop-p-preserved : goal.loop-p-preserved
 loop-p-preserved c =         gathering_miss c.loop-p.invariant c.loop-p-test.true _ c.word-i.ensures (sym c.if-is_core.false ∙ c.is_core.ensures)

@@ -34,20 +34,11 @@ square_apart-apart-requires c =         (c.loop-p.invariant.0, c.loop-p.invarian
 pub returns-then-apart-enough : goal.returns-then-apart-enough
 returns-then-apart-enough c = record { value = looking_stop c.loop-p.invariant.2 c.loop-p-test.true c.word-x.ensures (sym c.if-is_core.true ∙ c.is_core.ensures) c.square_apart-apart.ensures.value c.if-apart-enough.true; bound = omega (arith, c.square_apart-apart.ensures.bound) }
 
-pub loop-p-smaller-then-apart-least : goal.loop-p-smaller-then-apart-least
-loop-p-smaller-then-apart-least c = omega arith
-
 pub loop-p-preserved-then-apart-least : goal.loop-p-preserved-then-apart-least
 loop-p-preserved-then-apart-least c =         (c.loop-p.invariant.0, c.loop-p.invariant.1, looking_less c.loop-p.invariant.2 c.loop-p-test.true c.word-x.ensures (sym c.if-is_core.true ∙ c.is_core.ensures) c.square_apart-apart.ensures.value c.if-apart-enough.false c.if-apart-least.true)
 
-pub loop-p-smaller-else-apart-least : goal.loop-p-smaller-else-apart-least
-loop-p-smaller-else-apart-least c = omega arith
-
 pub loop-p-preserved-else-apart-least : goal.loop-p-preserved-else-apart-least
 loop-p-preserved-else-apart-least c =         (c.loop-p.invariant.0, c.loop-p.invariant.1, looking_more c.loop-p.invariant.2 c.loop-p-test.true c.word-x.ensures (sym c.if-is_core.true ∙ c.is_core.ensures) c.square_apart-apart.ensures.value c.if-apart-enough.false c.if-apart-least.false)
-
-pub loop-p-smaller : goal.loop-p-smaller
-loop-p-smaller c = omega arith
 
 pub loop-p-preserved : goal.loop-p-preserved
 loop-p-preserved c =         (c.loop-p.invariant.0, c.loop-p.invariant.1, looking_miss c.loop-p.invariant.2 c.loop-p-test.true c.word-x.ensures (sym c.if-is_core.false ∙ c.is_core.ensures))

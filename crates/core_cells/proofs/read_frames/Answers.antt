@@ -22,12 +22,6 @@ word-requires c = omega (arith, c.loop-p.invariant.1.can.places, c.loop-p.invari
 pub read_frame-requires : goal.read_frame-requires
 read_frame-requires c = (c.loop-p.invariant.0, look_below c.loop-p.invariant.1.can c.loop-p-test.true c.word.ensures)
 
-pub overflow_add-p : goal.overflow_add-p
-overflow_add-p c = omega arith
-
-pub loop-p-smaller : goal.loop-p-smaller
-loop-p-smaller c = omega arith
-
 pub loop-p-preserved : goal.loop-p-preserved
 loop-p-preserved c =         (c.loop-p.invariant.0, reading_step c.loop-p.invariant.1 c.loop-p-test.true c.word.ensures c.read_frame.ensures)
 

@@ -30,14 +30,8 @@ frame_reaches-requires c = (c.requires.ready.0, c.requires.ready.1, look_below c
 pub returns-then-frame_reaches : goal.returns-then-frame_reaches
 returns-then-frame_reaches c = seeking_found c.loop-p.invariant c.loop-p-test.true c.word-x.ensures (sym c.if-is_core.true ∙ c.is_core.ensures) (sym c.if-frame_reaches.true ∙ c.frame_reaches.ensures)
 
-pub loop-p-smaller-then-is_core : goal.loop-p-smaller-then-is_core
-loop-p-smaller-then-is_core c = omega arith
-
 pub loop-p-preserved-then-is_core : goal.loop-p-preserved-then-is_core
 loop-p-preserved-then-is_core c = seeking_pass c.loop-p.invariant c.loop-p-test.true c.word-x.ensures (sym c.if-is_core.true ∙ c.is_core.ensures) (sym c.if-frame_reaches.false ∙ c.frame_reaches.ensures)
-
-pub loop-p-smaller : goal.loop-p-smaller
-loop-p-smaller c = omega arith
 
 pub loop-p-preserved : goal.loop-p-preserved
 loop-p-preserved c = seeking_miss c.loop-p.invariant c.loop-p-test.true c.word-x.ensures (sym c.if-is_core.false ∙ c.is_core.ensures)

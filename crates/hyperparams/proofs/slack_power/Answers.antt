@@ -24,18 +24,9 @@ returns-then-slack-power c = sym (step c.args.slack c.loop-s.s c.loop-s.power tr
 pub overflow_mul-power : goal.overflow_mul-power
 overflow_mul-power c = omega (arith, le_trans (le_of_eq c.loop-s.invariant.1) (pow_mono {j = 11} (omega arith)))
 
-pub overflow_step-s : goal.overflow_step-s
-overflow_step-s c = omega arith
-
-pub loop-s-smaller : goal.loop-s-smaller
-loop-s-smaller c = omega arith
-
 pub loop-s-preserved : goal.loop-s-preserved
 unfolding of_bits of_int
 loop-s-preserved c = (omega arith, ap (λ (p : ℕ). p * 2) c.loop-s.invariant.1 ∙ rw (add-one, pow-suc), sym (step c.args.slack c.loop-s.s c.loop-s.power false (omega arith) c.loop-s.invariant.1 c.if-slack-power.false) ∙ c.loop-s.invariant.2)
-
-pub overflow_add-result : goal.overflow_add-result
-overflow_add-result c = omega arith
 
 pub returns : goal.returns
 returns c = let e : c.loop-s.s ≡ 11 = omega arith in subst (λ (s : ℕ). slack_from (11 - s) s c.args.slack ≡ slack_power c.args.slack) e c.loop-s.invariant.2

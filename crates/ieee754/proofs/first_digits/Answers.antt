@@ -2,26 +2,11 @@ use Rattle.std.proofs.Common.{◌+◌, ◌-◌, ◌*◌, ◌<◌, ◌≤◌, lt_
 use Rattle.ieee754.proofs.first_digits.Reads as reads
 use Rattle.ieee754.proofs.first_digits.Goals as goal
 
-pub loop-low-init : goal.loop-low-init
-loop-low-init c = omega arith
-
-pub overflow_add-low : goal.overflow_add-low
-overflow_add-low c = omega arith
-
-pub overflow_add-middle : goal.overflow_add-middle
-overflow_add-middle c = omega arith
-
 pub overflow_mul-middle : goal.overflow_mul-middle
 overflow_mul-middle c = record { fits = lt_of_le_of_lt (mul-le-mul {n₂ = 256} {m₂ = 256} (omega arith) (omega arith)) (lit< tt) }
 
-pub loop-low-smaller-then-middle-n : goal.loop-low-smaller-then-middle-n
-loop-low-smaller-then-middle-n c = omega arith
-
 pub loop-low-preserved-then-middle-n : goal.loop-low-preserved-then-middle-n
 loop-low-preserved-then-middle-n c = (omega arith, omega arith, c.if-middle-n.true, c.loop-low.invariant.3)
-
-pub loop-low-smaller : goal.loop-low-smaller
-loop-low-smaller c = omega arith
 
 pub loop-low-preserved : goal.loop-low-preserved
 loop-low-preserved c = (omega arith, omega arith, c.loop-low.invariant.2, c.if-middle-n.false)

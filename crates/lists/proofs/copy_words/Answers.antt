@@ -9,29 +9,11 @@ use Rattle.lists.proofs.copy_words.Goals as goal
 pub loop-i-init : goal.loop-i-init
 loop-i-init c = fill_start c.requires.m_in_bounds.1
 
-pub overflow_add-work : goal.overflow_add-work
-overflow_add-work c = omega arith
-
-pub offset_bounds-work-from : goal.offset_bounds-work-from
-offset_bounds-work-from c = omega arith
-
 pub bounds-work-from : goal.bounds-work-from
 bounds-work-from c = omega (arith, fill_length c.loop-i.invariant)
 
-pub overflow_add-work-in-loop-i : goal.overflow_add-work-in-loop-i
-overflow_add-work-in-loop-i c = omega arith
-
-pub offset_bounds-work-to : goal.offset_bounds-work-to
-offset_bounds-work-to c = omega arith
-
 pub bounds-work-to : goal.bounds-work-to
 bounds-work-to c = omega (arith, fill_length c.loop-i.invariant)
-
-pub overflow_add-i : goal.overflow_add-i
-overflow_add-i c = omega arith
-
-pub loop-i-smaller : goal.loop-i-smaller
-loop-i-smaller c = omega arith
 
 pub loop-i-preserved : goal.loop-i-preserved
 loop-i-preserved c = fill_step c.loop-i.invariant c.loop-i-test.true _ _ refl (copy_read c.requires.fact c.loop-i.invariant c.loop-i-test.true)

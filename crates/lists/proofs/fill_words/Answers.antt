@@ -8,20 +8,8 @@ use Rattle.lists.proofs.fill_words.Goals as goal
 pub loop-i-init : goal.loop-i-init
 loop-i-init c = fill_start c.requires
 
-pub overflow_add-work : goal.overflow_add-work
-overflow_add-work c = omega arith
-
-pub offset_bounds-work-at : goal.offset_bounds-work-at
-offset_bounds-work-at c = omega arith
-
 pub bounds-work-at : goal.bounds-work-at
 bounds-work-at c = omega (arith, fill_length c.loop-i.invariant)
-
-pub overflow_add-i : goal.overflow_add-i
-overflow_add-i c = omega arith
-
-pub loop-i-smaller : goal.loop-i-smaller
-loop-i-smaller c = omega arith
 
 pub loop-i-preserved : goal.loop-i-preserved
 loop-i-preserved c = fill_step c.loop-i.invariant c.loop-i-test.true _ _ refl refl

@@ -27,9 +27,6 @@ width-w-requires c = c.requires.ready.0.settings.scale.high
 pub edges_at-first-requires : goal.edges_at-first-requires
 edges_at-first-requires c = (c.requires.ready.0, c.requires.ready.2, omega (arith, c.width-w.ensures))
 
-pub bounds-first-0 : goal.bounds-first-0
-bounds-first-0 c = omega arith
-
 pub row_hashes-hashes-requires : goal.row_hashes-hashes-requires
 row_hashes-hashes-requires c = (c.edges_at-first.ensures.below, omega (arith, c.width-w.ensures, c.requires.ready.0.settings.scale.high))
 

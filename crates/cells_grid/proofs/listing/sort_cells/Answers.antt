@@ -30,9 +30,6 @@ bounds-work-n c = omega (arith, c.requires.ready.0.few, cells_few c.requires.rea
 pub overflow_add-c : goal.overflow_add-c
 overflow_add-c c = omega (arith, c.requires.ready.0.few, cells_few c.requires.ready.0 c.requires.ready.1, c.loop-c-test.true)
 
-pub loop-c-smaller : goal.loop-c-smaller
-loop-c-smaller c = omega arith
-
 pub loop-c-preserved : goal.loop-c-preserved
 loop-c-preserved c = fill_step c.loop-c.invariant c.loop-c-test.true _ _ refl c.cell_key-b.ensures.value
 

@@ -7,15 +7,3 @@ use Rattle.cells_grid.proofs.listing.sorted_count.Goals as goal
 
 pub returns-then-k-eq0 : goal.returns-then-k-eq0
 returns-then-k-eq0 c = sym (begin_first _ _ _ (omega (arith, c.if-k-eq0.true)))
-
-pub overflow_mul-n : goal.overflow_mul-n
-overflow_mul-n c = omega arith
-
-pub overflow_mul-k : goal.overflow_mul-k
-overflow_mul-k c = omega arith
-
-pub overflow_sub-k : goal.overflow_sub-k
-overflow_sub-k c = omega arith
-
-pub begins-requires : goal.begins-requires
-begins-requires c = omega arith

@@ -9,20 +9,11 @@ use Rattle.clustering.proofs.Bordering.{counts, can_list, few_listed, room_liste
 use Rattle.clustering.proofs.Held.{can_order}
 use Rattle.clustering.proofs.labels.border_cell.Goals as goal
 
-pub word-own-requires : goal.word-own-requires
-word-own-requires c = omega arith
-
 pub list_cells-m-requires : goal.list_cells-m-requires
 list_cells-m-requires c = can_list (c.requires.ready, c.requires.cells_sorted) c.word-own.ensures
 
 pub loop-j-init : goal.loop-j-init
 loop-j-init c = lowest_start _ _ _
-
-pub overflow_add-next : goal.overflow_add-next
-overflow_add-next c = omega arith
-
-pub overflow_mul-n : goal.overflow_mul-n
-overflow_mul-n c = omega arith
 
 pub overflow_add-n : goal.overflow_add-n
 overflow_add-n c =                 omega (arith, few_listed (c.requires.ready, c.requires.cells_sorted) c.word-own.ensures (c.list_cells-m.ensures.value, c.list_cells-m.ensures.work_after))
@@ -42,26 +33,14 @@ pub reaches-requires : goal.reaches-requires
 reaches-requires c =                 let z = can_ask (c.requires.ready, c.requires.cells_sorted) c.word-own.ensures (c.list_cells-m.ensures.value, c.list_cells-m.ensures.work_after) c.loop-j-test.true c.word-c.ensures in
     (z.0, z.1, z.2, z.3, c.root_unless-root.ensures)
 
-pub loop-j-smaller-then-reaches : goal.loop-j-smaller-then-reaches
-loop-j-smaller-then-reaches c = omega arith
-
 pub loop-j-preserved-then-reaches : goal.loop-j-preserved-then-reaches
 loop-j-preserved-then-reaches c =                 lower (c.requires.ready, c.requires.cells_sorted) c.word-own.ensures (c.list_cells-m.ensures.value, c.list_cells-m.ensures.work_after) c.loop-j-test.true c.word-c.ensures c.loop-j.invariant c.if-c-b.true c.reaches.ensures c.if-reaches.true
-
-pub loop-j-smaller-else-reaches : goal.loop-j-smaller-else-reaches
-loop-j-smaller-else-reaches c = omega arith
 
 pub loop-j-preserved-else-reaches : goal.loop-j-preserved-else-reaches
 loop-j-preserved-else-reaches c =                 no_count (c.requires.ready, c.requires.cells_sorted) c.word-own.ensures (c.list_cells-m.ensures.value, c.list_cells-m.ensures.work_after) c.loop-j-test.true c.word-c.ensures c.loop-j.invariant c.reaches.ensures c.if-reaches.false
 
-pub loop-j-smaller : goal.loop-j-smaller
-loop-j-smaller c = omega arith
-
 pub loop-j-preserved : goal.loop-j-preserved
 loop-j-preserved c =                 not_lower (c.requires.ready, c.requires.cells_sorted) c.word-own.ensures (c.list_cells-m.ensures.value, c.list_cells-m.ensures.work_after) c.loop-j-test.true c.word-c.ensures c.loop-j.invariant c.if-c-b.false
-
-pub overflow_mul-n-2 : goal.overflow_mul-n-2
-overflow_mul-n-2 c = omega arith
 
 pub clear_words-requires : goal.clear_words-requires
 clear_words-requires c =                 omega (arith, few_listed (c.requires.ready, c.requires.cells_sorted) c.word-own.ensures (c.list_cells-m.ensures.value, c.list_cells-m.ensures.work_after), room_listed (c.requires.ready, c.requires.cells_sorted) c.word-own.ensures (c.list_cells-m.ensures.value, c.list_cells-m.ensures.work_after))

@@ -16,35 +16,11 @@ pub label_frame-f-requires : goal.label_frame-f-requires
 label_frame-f-requires c =             let z = columns_search c.requires.ready.0 c.loop-i.invariant (c.requires.ready.1, c.requires.cells_sorted) in
     let e = columns_under c.loop-i.invariant (7 * c.args.n) c.args.k (omega (arith, few_cells c.requires.ready.0 c.requires.ready.1)) in record { ready = (c.requires.ready.0, z.0, c.loop-i-test.true); cells_sorted = z.1; m_value = (c.requires.m_value.0, e ∙ c.requires.m_value.1) }
 
-pub overflow_mul-work : goal.overflow_mul-work
-overflow_mul-work c = omega arith
-
-pub overflow_add-work : goal.overflow_add-work
-overflow_add-work c = omega arith
-
-pub offset_bounds-work-n : goal.offset_bounds-work-n
-offset_bounds-work-n c = omega arith
-
 pub bounds-work-n : goal.bounds-work-n
 bounds-work-n c = omega (arith, columns_length c.loop-i.invariant, ap length c.label_frame-f.ensures.work)
 
-pub overflow_mul-work-in-loop-i : goal.overflow_mul-work-in-loop-i
-overflow_mul-work-in-loop-i c = omega arith
-
-pub overflow_add-work-in-loop-i : goal.overflow_add-work-in-loop-i
-overflow_add-work-in-loop-i c = omega arith
-
-pub offset_bounds-work-n-in-loop-i : goal.offset_bounds-work-n-in-loop-i
-offset_bounds-work-n-in-loop-i c = omega arith
-
 pub bounds-work-n-in-loop-i : goal.bounds-work-n-in-loop-i
 bounds-work-n-in-loop-i c = simp length-set (omega (arith, columns_length c.loop-i.invariant, ap length c.label_frame-f.ensures.work))
-
-pub overflow_add-i : goal.overflow_add-i
-overflow_add-i c = omega arith
-
-pub loop-i-smaller : goal.loop-i-smaller
-loop-i-smaller c = omega arith
 
 pub loop-i-preserved : goal.loop-i-preserved
 loop-i-preserved c =         columns_step (columns_same c.loop-i.invariant c.label_frame-f.ensures.work) c.loop-i-test.true c.label_frame-f.ensures.label c.label_frame-f.ensures.kind

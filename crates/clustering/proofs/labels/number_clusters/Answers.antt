@@ -7,23 +7,8 @@ use Rattle.clustering.proofs.labels.number_clusters.Goals as goal
 pub loop-c-init : goal.loop-c-init
 loop-c-init c = numbered_start c.requires.0 c.requires.2 c.requires.3
 
-pub overflow_add-next : goal.overflow_add-next
-overflow_add-next c = omega arith
-
-pub overflow_mul-at : goal.overflow_mul-at
-overflow_mul-at c = omega arith
-
-pub overflow_add-at : goal.overflow_add-at
-overflow_add-at c = omega arith
-
 pub is_core_cell-requires : goal.is_core_cell-requires
 is_core_cell-requires c = omega (arith, fill_length c.loop-c.invariant.fill)
-
-pub overflow_mul-n : goal.overflow_mul-n
-overflow_mul-n c = omega arith
-
-pub overflow_add-n : goal.overflow_add-n
-overflow_add-n c = omega arith
 
 pub word-lowest-requires : goal.word-lowest-requires
 word-lowest-requires c = omega (arith, fill_length c.loop-c.invariant.fill)
@@ -31,24 +16,15 @@ word-lowest-requires c = omega (arith, fill_length c.loop-c.invariant.fill)
 pub overflow_cast-work : goal.overflow_cast-work
 overflow_cast-work c = omega (arith, number_low c.loop-c.invariant)
 
-pub offset_bounds-work-at : goal.offset_bounds-work-at
-offset_bounds-work-at c = omega arith
-
 pub bounds-work-at : goal.bounds-work-at
 bounds-work-at c = omega (arith, fill_length c.loop-c.invariant.fill)
 
 pub overflow_add-m : goal.overflow_add-m
 overflow_add-m c = omega (arith, number_low c.loop-c.invariant)
 
-pub loop-c-smaller-then-lowest-c : goal.loop-c-smaller-then-lowest-c
-loop-c-smaller-then-lowest-c c = omega arith
-
 pub loop-c-preserved-then-lowest-c : goal.loop-c-preserved-then-lowest-c
 loop-c-preserved-then-lowest-c c = number_own c.loop-c.invariant c.loop-c-test.true
     c.is_core_cell.ensures c.if-is_core_cell.true c.word-lowest.ensures c.if-lowest-c.true
-
-pub overflow_mul-work : goal.overflow_mul-work
-overflow_mul-work c = omega arith
 
 pub overflow_add-work : goal.overflow_add-work
 overflow_add-work c =     let l = lowest_low c.loop-c.invariant c.loop-c-test.true
@@ -65,28 +41,16 @@ bounds-work-n c =     let l = lowest_low c.loop-c.invariant c.loop-c-test.true
     c.is_core_cell.ensures c.if-is_core_cell.true c.word-lowest.ensures in
     omega (arith, fill_length c.loop-c.invariant.fill)
 
-pub offset_bounds-work-at-else-lowest-c : goal.offset_bounds-work-at-else-lowest-c
-offset_bounds-work-at-else-lowest-c c = omega arith
-
 pub bounds-work-at-else-lowest-c : goal.bounds-work-at-else-lowest-c
 bounds-work-at-else-lowest-c c = omega (arith, fill_length c.loop-c.invariant.fill)
-
-pub loop-c-smaller-else-lowest-c : goal.loop-c-smaller-else-lowest-c
-loop-c-smaller-else-lowest-c c = omega arith
 
 pub loop-c-preserved-else-lowest-c : goal.loop-c-preserved-else-lowest-c
 loop-c-preserved-else-lowest-c c = number_other c.loop-c.invariant
     c.loop-c-test.true
     c.is_core_cell.ensures c.if-is_core_cell.true c.word-lowest.ensures c.if-lowest-c.false
 
-pub offset_bounds-work-at-else-is_core_cell : goal.offset_bounds-work-at-else-is_core_cell
-offset_bounds-work-at-else-is_core_cell c = omega arith
-
 pub bounds-work-at-else-is_core_cell : goal.bounds-work-at-else-is_core_cell
 bounds-work-at-else-is_core_cell c = omega (arith, fill_length c.loop-c.invariant.fill)
-
-pub loop-c-smaller : goal.loop-c-smaller
-loop-c-smaller c = omega arith
 
 pub loop-c-preserved : goal.loop-c-preserved
 loop-c-preserved c = number_none c.loop-c.invariant c.loop-c-test.true c.is_core_cell.ensures c.if-is_core_cell.false

@@ -19,12 +19,6 @@ asks-requires-in-loop-j c =         (c.requires.ready.0, c.requires.ready.1, c.r
 pub returns-then-asks-2 : goal.returns-then-asks-2
 returns-then-asks-2 c = turn_second c.loop-j.invariant c.loop-j-test.true c.asks.ensures c.if-asks.false c.asks-in-loop-j.ensures c.if-asks-2.true
 
-pub overflow_add-j : goal.overflow_add-j
-overflow_add-j c = omega arith
-
-pub loop-j-smaller : goal.loop-j-smaller
-loop-j-smaller c = omega arith
-
 pub loop-j-preserved : goal.loop-j-preserved
 loop-j-preserved c = turn_none c.loop-j.invariant c.loop-j-test.true c.asks.ensures c.if-asks.false c.asks-in-loop-j.ensures c.if-asks-2.false
 

@@ -4,9 +4,6 @@ use Rattle.clustering.proofs.Asking.{listed_below}
 use borrow.Author.Rules.{rules}
 use Rattle.clustering.proofs.trees.asks_trees.Goals as goal
 
-pub loop-j-init : goal.loop-j-init
-loop-j-init c = omega arith
-
 pub overflow_mul-n : goal.overflow_mul-n
 overflow_mul-n c = omega (arith, c.requires.ready.0.few)
 
@@ -21,9 +18,3 @@ asks_tree-requires c = (c.requires.ready.0, c.requires.ready.1, c.requires.ready
 
 pub overflow_add-j : goal.overflow_add-j
 overflow_add-j c = omega (arith, c.requires.ready.0.few, c.requires.ready.3)
-
-pub loop-j-smaller : goal.loop-j-smaller
-loop-j-smaller c = omega arith
-
-pub loop-j-preserved : goal.loop-j-preserved
-loop-j-preserved c = omega arith

@@ -3,26 +3,17 @@ use native.Mathlib.Omega.{arith}
 use borrow.Author.Rules.{rules}
 use Rattle.clustering.proofs.trees.has_border.Goals as goal
 
-pub loop-i-init : goal.loop-i-init
-loop-i-init c = omega arith
-
 pub overflow_add-next : goal.overflow_add-next
 overflow_add-next c = omega (arith, c.requires.0)
 
 pub is_core-requires : goal.is_core-requires
 is_core-requires c = (c.loop-i-test.true, c.requires.1)
 
-pub loop-i-smaller-then-is_core : goal.loop-i-smaller-then-is_core
-loop-i-smaller-then-is_core c = omega arith
-
 pub loop-i-preserved-then-is_core : goal.loop-i-preserved-then-is_core
 loop-i-preserved-then-is_core c = omega (arith, c.loop-i.invariant)
 
 pub overflow_add-others : goal.overflow_add-others
 overflow_add-others c = omega (arith, c.loop-i.invariant, c.requires.0)
-
-pub loop-i-smaller : goal.loop-i-smaller
-loop-i-smaller c = omega arith
 
 pub loop-i-preserved : goal.loop-i-preserved
 loop-i-preserved c = omega (arith, c.loop-i.invariant)

@@ -3,17 +3,8 @@ use native.Mathlib.Omega.{arith}
 use borrow.Author.Rules.{rules}
 use Rattle.clustering.proofs.trees.has_large.Goals as goal
 
-pub loop-c-init : goal.loop-c-init
-loop-c-init c = omega arith
-
 pub is_large-requires : goal.is_large-requires
 is_large-requires c = (c.loop-c-test.true, c.requires.k_le_n.0, c.requires.k_le_n.2, c.requires.by_index _ c.loop-c-test.true)
 
 pub overflow_add-c : goal.overflow_add-c
 overflow_add-c c = omega (arith, c.requires.k_le_n.0, c.requires.k_le_n.1)
-
-pub loop-c-smaller : goal.loop-c-smaller
-loop-c-smaller c = omega arith
-
-pub loop-c-preserved : goal.loop-c-preserved
-loop-c-preserved c = omega arith

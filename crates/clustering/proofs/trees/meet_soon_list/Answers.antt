@@ -7,9 +7,6 @@ use Rattle.clustering.proofs.trees.meet_soon_list.Goals as goal
 pub loop-j-init : goal.loop-j-init
 loop-j-init c = (leading_start c.requires.ready.0 c.requires.ready.1 c.requires.n_in_bounds.0 c.requires.n_in_bounds.1, omega arith)
 
-pub overflow_mul-n : goal.overflow_mul-n
-overflow_mul-n c = omega arith
-
 pub overflow_add-n : goal.overflow_add-n
 overflow_add-n c = omega (arith, c.requires.ready.3, c.loop-j.invariant.0.room)
 
@@ -18,12 +15,6 @@ word-d-requires c = omega (arith, c.requires.ready.3, c.loop-j.invariant.0.room,
 
 pub meet_soon-requires : goal.meet_soon-requires
 meet_soon-requires c = record { ready = (c.requires.ready.0, c.loop-j.invariant.0.grown, c.requires.ready.2, c.requires.by_index _ (in_list c.loop-j.invariant.0 c.requires.ready.3 c.loop-j-test.true c.word-d.ensures)); n_in_bounds = (omega (arith, c.loop-j.invariant.0.room, c.loop-j.invariant.0.size), c.loop-j.invariant.0.falling) }
-
-pub overflow_add-j : goal.overflow_add-j
-overflow_add-j c = omega arith
-
-pub loop-j-smaller : goal.loop-j-smaller
-loop-j-smaller c = omega arith
 
 pub loop-j-preserved : goal.loop-j-preserved
 loop-j-preserved c = (leading_on c.loop-j.invariant.0 (left_stand c.loop-j.invariant.0 c.meet_soon.ensures.others c.meet_soon.ensures.leaders) c.meet_soon.ensures.others, omega arith)

@@ -45,14 +45,8 @@ shape_of-work-then-ask c = ap length (asking_on c.requires.ready.0 c.loop-c.inva
 pub returns-then-ask : goal.returns-then-ask
 returns-then-ask c = (asking_on c.requires.ready.0 c.loop-c.invariant c.loop-c-test.true _ c.list_later-m.ensures.value c.list_later-m.ensures.work_after c.clear_words.ensures).0
 
-pub loop-c-smaller-then-is_core_cell : goal.loop-c-smaller-then-is_core_cell
-loop-c-smaller-then-is_core_cell c = omega arith
-
 pub loop-c-preserved-then-is_core_cell : goal.loop-c-preserved-then-is_core_cell
 loop-c-preserved-then-is_core_cell c = asking_on c.requires.ready.0 c.loop-c.invariant c.loop-c-test.true _ c.list_later-m.ensures.value c.list_later-m.ensures.work_after c.clear_words.ensures
-
-pub loop-c-smaller : goal.loop-c-smaller
-loop-c-smaller c = omega arith
 
 pub loop-c-preserved : goal.loop-c-preserved
 loop-c-preserved c = c.loop-c.invariant

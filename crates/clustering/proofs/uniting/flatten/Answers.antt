@@ -12,12 +12,6 @@ use Rattle.clustering.proofs.uniting.flatten.Goals as goal
 pub loop-c-init : goal.loop-c-init
 loop-c-init c = fill_start (omega arith)
 
-pub offset_bounds-leaders-c : goal.offset_bounds-leaders-c
-offset_bounds-leaders-c c = omega arith
-
-pub bounds-leaders-c : goal.bounds-leaders-c
-bounds-leaders-c c = omega arith
-
 pub overflow_cast-leader : goal.overflow_cast-leader
 overflow_cast-leader c = omega (arith, leader_low c.requires c.loop-c.invariant)
 
@@ -26,15 +20,6 @@ offset_bounds-leaders-leader c = omega (arith, leader_low c.requires c.loop-c.in
 
 pub bounds-leaders-leader : goal.bounds-leaders-leader
 bounds-leaders-leader c = omega (arith, leader_low c.requires c.loop-c.invariant)
-
-pub offset_bounds-leaders-c-in-loop-c : goal.offset_bounds-leaders-c-in-loop-c
-offset_bounds-leaders-c-in-loop-c c = omega arith
-
-pub bounds-leaders-c-in-loop-c : goal.bounds-leaders-c-in-loop-c
-bounds-leaders-c-in-loop-c c = omega arith
-
-pub overflow_add-c : goal.overflow_add-c
-overflow_add-c c = omega arith
 
 pub loop-c-smaller : goal.loop-c-smaller
 loop-c-smaller c = omega (arith, fill_length c.loop-c.invariant)

@@ -15,9 +15,6 @@ frames_first-first-requires c = can_order c.requires.0 c.requires.1 c.requires.3
 pub cell_end-end-requires : goal.cell_end-end-requires
 cell_end-end-requires c =         (c.requires.2, few_cells c.requires.0 c.requires.1, omega (arith, room c.requires.0 c.requires.1))
 
-pub overflow_mul-n : goal.overflow_mul-n
-overflow_mul-n c = omega arith
-
 pub overflow_add-n : goal.overflow_add-n
 overflow_add-n c = omega (arith, few_cells c.requires.0 c.requires.1, room c.requires.0 c.requires.1)
 
@@ -27,18 +24,6 @@ word-p-requires c = omega (arith, few_cells c.requires.0 c.requires.1, room c.re
 pub loop-p-init : goal.loop-p-init
 loop-p-init c = touch_start c.requires.0 c.requires.1 _ _ c.requires.2 _ _
     c.cell_end-end.ensures c.word-p.ensures
-
-pub overflow_add-next : goal.overflow_add-next
-overflow_add-next c = omega arith
-
-pub overflow_mul-n-in-loop-p : goal.overflow_mul-n-in-loop-p
-overflow_mul-n-in-loop-p c = omega arith
-
-pub overflow_add-n-in-loop-p : goal.overflow_add-n-in-loop-p
-overflow_add-n-in-loop-p c = omega arith
-
-pub word-i-requires : goal.word-i-requires
-word-i-requires c = omega arith
 
 pub is_core-requires : goal.is_core-requires
 is_core-requires c = (frame_low c.loop-p.invariant c.loop-p-test.true c.word-i.ensures, c.loop-p.invariant.room)
@@ -50,15 +35,9 @@ pub returns-then-reaches : goal.returns-then-reaches
 returns-then-reaches c =     touch_hit c.loop-p.invariant c.loop-p-test.true
     c.word-i.ensures c.is_core.ensures c.if-is_core.true c.reaches.ensures c.if-reaches.true
 
-pub loop-p-smaller-then-is_core : goal.loop-p-smaller-then-is_core
-loop-p-smaller-then-is_core c = omega arith
-
 pub loop-p-preserved-then-is_core : goal.loop-p-preserved-then-is_core
 loop-p-preserved-then-is_core c =     touch_miss c.loop-p.invariant c.loop-p-test.true
     c.word-i.ensures c.is_core.ensures c.if-is_core.true c.reaches.ensures c.if-reaches.false
-
-pub loop-p-smaller : goal.loop-p-smaller
-loop-p-smaller c = omega arith
 
 pub loop-p-preserved : goal.loop-p-preserved
 loop-p-preserved c = touch_skip c.loop-p.invariant c.loop-p-test.true c.word-i.ensures c.is_core.ensures c.if-is_core.false

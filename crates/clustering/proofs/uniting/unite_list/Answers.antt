@@ -7,9 +7,6 @@ use Rattle.clustering.proofs.uniting.unite_list.Goals as goal
 pub loop-j-init : goal.loop-j-init
 loop-j-init c =         listing_start c.requires.ready.0 c.requires.ready.1 c.requires.ready.2 c.requires.ready.3 c.requires.n_in_bounds.0 c.requires.n_in_bounds.1 c.requires.by_index
 
-pub overflow_mul-n : goal.overflow_mul-n
-overflow_mul-n c = omega arith
-
 pub overflow_add-n : goal.overflow_add-n
 overflow_add-n c = omega (arith, c.loop-j.invariant.few, c.loop-j.invariant.leading.room)
 
@@ -18,12 +15,6 @@ word-d-requires c = omega (arith, c.loop-j.invariant.few, c.loop-j.invariant.lea
 
 pub meet_cells-requires : goal.meet_cells-requires
 meet_cells-requires c =             let e = next_each c.loop-j.invariant c.loop-j-test.true c.word-d.ensures in record { ready = (c.requires.ready.0, c.loop-j.invariant.leading.grown, c.requires.ready.2, e.0); n_in_bounds = (omega (arith, c.loop-j.invariant.leading.room, c.loop-j.invariant.leading.size), c.loop-j.invariant.leading.falling); t = e.1 }
-
-pub overflow_add-j : goal.overflow_add-j
-overflow_add-j c = omega arith
-
-pub loop-j-smaller : goal.loop-j-smaller
-loop-j-smaller c = omega arith
 
 pub loop-j-preserved : goal.loop-j-preserved
 loop-j-preserved c = listing_on c.loop-j.invariant c.loop-j-test.true c.word-d.ensures c.meet_cells.ensures

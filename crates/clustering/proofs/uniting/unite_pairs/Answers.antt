@@ -9,12 +9,6 @@ use Rattle.clustering.proofs.uniting.unite_pairs.Goals as goal
 pub loop-c-init : goal.loop-c-init
 loop-c-init c = going_start c.requires.ready.0 c.requires.ready.1 _ c.requires.n_in_bounds.0 c.requires.n_in_bounds.1
 
-pub overflow_add-c : goal.overflow_add-c
-overflow_add-c c = omega arith
-
-pub loop-c-smaller-then-d-k : goal.loop-c-smaller-then-d-k
-loop-c-smaller-then-d-k c = omega arith
-
 pub loop-c-preserved-then-d-k : goal.loop-c-preserved-then-d-k
 loop-c-preserved-then-d-k c = going_row c.loop-c.invariant c.loop-c-test.true c.if-d-k.true
 
@@ -28,12 +22,6 @@ pub returns-then-t : goal.returns-then-t
 returns-then-t c =  let z = going_off c.loop-c.invariant c.loop-c-test.true
     c.if-d-k.false c.try_pair-t.ensures.used c.try_pair-t.ensures.stopped
     c.try_pair-t.ensures.work c.if-t.true in record { progress = z.0; work = z.1 }
-
-pub overflow_add-d : goal.overflow_add-d
-overflow_add-d c = omega arith
-
-pub loop-c-smaller : goal.loop-c-smaller
-loop-c-smaller c = omega arith
 
 pub loop-c-preserved : goal.loop-c-preserved
 loop-c-preserved c = going_on c.loop-c.invariant c.loop-c-test.true

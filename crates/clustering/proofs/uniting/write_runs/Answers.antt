@@ -5,9 +5,6 @@ use Rattle.clustering.proofs.uniting.write_runs.Goals as goal
 pub loop-p-init : goal.loop-p-init
 loop-p-init c = writing_start c.requires.0 c.requires.1 c.requires.2 c.requires.3
 
-pub overflow_sub-p : goal.overflow_sub-p
-overflow_sub-p c = omega arith
-
 pub overflow_mul-n : goal.overflow_mul-n
 overflow_mul-n c = omega (arith, c.loop-p.invariant.frames)
 
@@ -46,9 +43,6 @@ bounds-work-n c = omega (arith, writing_length c.loop-p.invariant, c.loop-p.inva
 
 pub overflow_add-run : goal.overflow_add-run
 overflow_add-run c = omega (arith, run_low c.loop-p.invariant c.loop-p-test.true c.word-c.ensures c.word-own.ensures c.run_with-run.ensures, c.loop-p.invariant.few, c.loop-p.invariant.frames)
-
-pub loop-p-smaller : goal.loop-p-smaller
-loop-p-smaller c = omega arith
 
 pub loop-p-preserved : goal.loop-p-preserved
 loop-p-preserved c = writing_on c.loop-p.invariant c.loop-p-test.true c.word-c.ensures c.word-own.ensures c.run_with-run.ensures

@@ -45,23 +45,14 @@ is_core-requires c = (look_below c.loop-p.invariant.can c.loop-p-test.true c.wor
 pub settled_by_frames-requires : goal.settled_by_frames-requires
 settled_by_frames-requires c = (c.requires.0, c.requires.1, look_below c.loop-p.invariant.can c.loop-p-test.true c.word-i.ensures, c.requires.3)
 
-pub loop-p-smaller-in-Disjoint : goal.loop-p-smaller-in-Disjoint
-loop-p-smaller-in-Disjoint c = omega arith
-
 pub loop-p-preserved-in-Disjoint : goal.loop-p-preserved-in-Disjoint
 loop-p-preserved-in-Disjoint c = joining_apart c.loop-p.invariant c.loop-p-test.true c.word-i.ensures (sym c.if-is_core.true ∙ c.is_core.ensures) c.in-Disjoint.ensures.value refl
 
 pub returns-in-FullyCovered : goal.returns-in-FullyCovered
 returns-in-FullyCovered c = record { value = cells_value c.requires c.word-p.ensures c.cell_end-end.ensures (joining_covered c.loop-p.invariant c.loop-p-test.true c.word-i.ensures (sym c.if-is_core.true ∙ c.is_core.ensures) c.in-FullyCovered.ensures.value refl); touches = λ e. one_covered c.requires c.word-p.ensures c.cell_end-end.ensures _ (look_in c.loop-p.invariant.can c.loop-p.invariant.low c.loop-p-test.true c.word-i.ensures) (sym c.if-is_core.true ∙ c.is_core.ensures) c.in-FullyCovered.ensures.tells refl; apart = λ e. apart_not_covered (sym e) }
 
-pub loop-p-smaller-in-Intersecting : goal.loop-p-smaller-in-Intersecting
-loop-p-smaller-in-Intersecting c = omega arith
-
 pub loop-p-preserved-in-Intersecting : goal.loop-p-preserved-in-Intersecting
 loop-p-preserved-in-Intersecting c = joining_open c.loop-p.invariant c.loop-p-test.true c.word-i.ensures (sym c.if-is_core.true ∙ c.is_core.ensures) c.in-Intersecting.ensures.value refl
-
-pub loop-p-smaller : goal.loop-p-smaller
-loop-p-smaller c = omega arith
 
 pub loop-p-preserved : goal.loop-p-preserved
 loop-p-preserved c = joining_miss c.loop-p.invariant c.loop-p-test.true c.word-i.ensures (sym c.if-is_core.false ∙ c.is_core.ensures)

@@ -17,30 +17,6 @@ use Rattle.counting_tree.proofs.boxes.corner.Goals.{then-bits-eq0, else-bits-eq0
 pub loop-i-init : goal.loop-i-init
 loop-i-init c = (omega arith, c.well_formed.0.1.0.1, refl, fill_start (omega arith), refl)
 
-pub offset_bounds-centre-i : goal.offset_bounds-centre-i
-offset_bounds-centre-i c = omega arith
-
-pub bounds-centre-i : goal.bounds-centre-i
-bounds-centre-i c = omega arith
-
-pub offset_bounds-row-i : goal.offset_bounds-row-i
-offset_bounds-row-i c = omega arith
-
-pub bounds-row-i : goal.bounds-row-i
-bounds-row-i c = omega arith
-
-pub offset_bounds-row-i-else-bits-eq0 : goal.offset_bounds-row-i-else-bits-eq0
-offset_bounds-row-i-else-bits-eq0 c = omega arith
-
-pub bounds-row-i-else-bits-eq0 : goal.bounds-row-i-else-bits-eq0
-bounds-row-i-else-bits-eq0 c = omega arith
-
-pub overflow_step-i : goal.overflow_step-i
-overflow_step-i c = omega arith
-
-pub loop-i-smaller : goal.loop-i-smaller
-loop-i-smaller c = omega arith
-
 pub loop-i-preserved : goal.loop-i-preserved
 loop-i-preserved c =             let more = fill_step c.loop-i.invariant.3 (omega arith) in (
       c.loop-i.invariant.0,

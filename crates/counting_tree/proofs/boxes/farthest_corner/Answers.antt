@@ -14,28 +14,10 @@ use Rattle.counting_tree.proofs.Arrays.{at_most_sixteen, scan_step, scan_done}
 use Rattle.counting_tree.proofs.boxes.farthest_corner.Goals as goal
 use Rattle.counting_tree.proofs.boxes.farthest_corner.Goals.{then-far-sum, else-far-sum}
 
-pub corner_count-n-requires : goal.corner_count-n-requires
-corner_count-n-requires c = omega arith
-
 pub loop-k-init : goal.loop-k-init
 unfolding of_bits of_int
 loop-k-init c =     let h : c.args.channels ≤ 4 = omega arith in
     (omega arith, c.corner_count-n.ensures, omega (arith, at_most_sixteen c.args.channels h, c.corner_count-n.ensures), h, c.well_formed.1.0.1.0.1, refl)
-
-pub offset_bounds-all-k : goal.offset_bounds-all-k
-offset_bounds-all-k c = omega arith
-
-pub bounds-all-k : goal.bounds-all-k
-bounds-all-k c = omega arith
-
-pub square_sum-sum-requires : goal.square_sum-sum-requires
-square_sum-sum-requires c = omega arith
-
-pub overflow_step-k : goal.overflow_step-k
-overflow_step-k c = omega arith
-
-pub loop-k-smaller : goal.loop-k-smaller
-loop-k-smaller c = omega arith
 
 pub loop-k-preserved : goal.loop-k-preserved
 loop-k-preserved c =             let n = c.corner_count-n.result in

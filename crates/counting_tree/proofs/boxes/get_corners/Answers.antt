@@ -11,32 +11,11 @@ use Rattle.counting_tree.specs.Arrays.{row_of, rows_of}
 use Rattle.counting_tree.proofs.Arrays.{at_most_sixteen}
 use Rattle.counting_tree.proofs.boxes.get_corners.Goals as goal
 
-pub half_side-e-requires : goal.half_side-e-requires
-half_side-e-requires c = omega arith
-
-pub corner_count-n-requires : goal.corner_count-n-requires
-corner_count-n-requires c = omega arith
-
 pub loop-k-init : goal.loop-k-init
 unfolding of_bits of_int
 loop-k-init c =     let h : c.args.channels ≤ 4 = omega arith in
     let s : c.corner_count-n.result ≤ 16 = omega (arith, at_most_sixteen c.args.channels h, c.corner_count-n.ensures) in
     (h, c.corner_count-n.ensures, s, c.half_side-e.ensures, refl, fill_start (omega arith))
-
-pub corner-requires : goal.corner-requires
-corner-requires c = omega arith
-
-pub offset_bounds-all-k : goal.offset_bounds-all-k
-offset_bounds-all-k c = omega arith
-
-pub bounds-all-k : goal.bounds-all-k
-bounds-all-k c = omega arith
-
-pub overflow_step-k : goal.overflow_step-k
-overflow_step-k c = omega arith
-
-pub loop-k-smaller : goal.loop-k-smaller
-loop-k-smaller c = omega arith
 
 pub loop-k-preserved : goal.loop-k-preserved
 loop-k-preserved c =         (c.loop-k.invariant.0, c.loop-k.invariant.1, c.loop-k.invariant.2, c.loop-k.invariant.3, c.loop-k.invariant.4, fill_step c.loop-k.invariant.5 (omega arith) c.corner.result c.loop-k.k (omega arith) c.corner.ensures)

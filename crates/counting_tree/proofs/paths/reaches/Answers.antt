@@ -19,12 +19,6 @@ returns-in-Disjoint c = walk_disjoint c.requires.0 c.loop-left.invariant c.in-Di
 pub returns-in-FullyCovered : goal.returns-in-FullyCovered
 returns-in-FullyCovered c = walk_covered c.requires.0 c.loop-left.invariant c.in-FullyCovered.ensures refl
 
-pub overflow_sub-left : goal.overflow_sub-left
-overflow_sub-left c = omega arith
-
-pub loop-left-smaller : goal.loop-left-smaller
-loop-left-smaller c = omega arith
-
 pub loop-left-preserved : goal.loop-left-preserved
 loop-left-preserved c = walk_on c.requires.0 c.loop-left.invariant c.in-Intersecting.ensures refl c.loop-left-test.true c.half_side-side-in-Intersecting.ensures
 

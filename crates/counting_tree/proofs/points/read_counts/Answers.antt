@@ -10,18 +10,6 @@ use Rattle.counting_tree.proofs.points.read_counts.Goals as goal
 pub loop-i-init : goal.loop-i-init
 loop-i-init c = (omega arith, λ k h. absurd (omega arith))
 
-pub offset_bounds-points-i : goal.offset_bounds-points-i
-offset_bounds-points-i c = omega arith
-
-pub bounds-points-i : goal.bounds-points-i
-bounds-points-i c = omega arith
-
-pub overflow_add-i : goal.overflow_add-i
-overflow_add-i c = omega arith
-
-pub loop-i-smaller : goal.loop-i-smaller
-loop-i-smaller c = omega arith
-
 pub loop-i-preserved : goal.loop-i-preserved
 loop-i-preserved c = (omega arith, below_more _ _ c.loop-i.invariant.1 c.count-1.given)
 

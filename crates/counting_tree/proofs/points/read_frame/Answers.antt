@@ -13,21 +13,6 @@ overflow_mul-start c = omega (arith, inside c.requires.0 c.args.i c.requires.1)
 pub loop-k-init : goal.loop-k-init
 loop-k-init c = (omega arith, (some_channels c.requires.0).1, inside c.requires.0 c.args.i c.requires.1, λ j h. absurd (omega arith))
 
-pub overflow_add-count : goal.overflow_add-count
-overflow_add-count c = omega arith
-
-pub offset_bounds-points-start : goal.offset_bounds-points-start
-offset_bounds-points-start c = omega arith
-
-pub bounds-points-start : goal.bounds-points-start
-bounds-points-start c = omega arith
-
-pub overflow_step-k : goal.overflow_step-k
-overflow_step-k c = omega arith
-
-pub loop-k-smaller : goal.loop-k-smaller
-loop-k-smaller c = omega arith
-
 pub loop-k-preserved : goal.loop-k-preserved
 loop-k-preserved c =     let I = c.loop-k.invariant in
     (omega arith, I.1, I.2, below_more _ _ I.3 c.count-1.given)

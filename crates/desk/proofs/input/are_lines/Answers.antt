@@ -11,23 +11,8 @@ pub loop-init : goal.loop-init
 loop-init c =     let e : c.args.n - 0 ≡ c.args.n = omega arith in
     (omega arith, (omega arith, ap (λ (m : ℕ). are_lines c.args.input.now c.args.k m c.args.from) e))
 
-pub is_line-requires : goal.is_line-requires
-is_line-requires c = omega arith
-
 pub returns-then-not-is_line : goal.returns-then-not-is_line
 returns-then-not-is_line c = sym (lines_stop _ _ _ _ _ c.loop-test.true c.is_line.ensures (not-true _ (ap not c.if-not-is_line.true))) ∙ c.loop.invariant.1.1
-
-pub overflow_add-at : goal.overflow_add-at
-overflow_add-at c = omega arith
-
-pub overflow_add-at-in-loop : goal.overflow_add-at-in-loop
-overflow_add-at-in-loop c = omega arith
-
-pub overflow_step : goal.overflow_step
-overflow_step c = omega arith
-
-pub loop-smaller : goal.loop-smaller
-loop-smaller c = omega arith
 
 pub loop-preserved : goal.loop-preserved
 loop-preserved c = (

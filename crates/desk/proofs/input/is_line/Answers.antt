@@ -9,9 +9,6 @@ use Rattle.desk.proofs.Lines.{line_stops, line_goes_on}
 use mathlib.Core.Bool.{not}
 use Rattle.desk.proofs.input.is_line.Goals as goal
 
-pub overflow_add-end : goal.overflow_add-end
-overflow_add-end c = omega arith
-
 pub loop-i-init : goal.loop-i-init
 loop-i-init c =     let e : c.args.at + c.args.k - c.args.at ≡ c.args.k = omega arith in
     (omega arith, (omega arith, ap (is_line c.args.input.now c.args.at) e))
@@ -24,12 +21,6 @@ is_digit-requires c = tt
 
 pub returns-then-not-is_digit : goal.returns-then-not-is_digit
 returns-then-not-is_digit c =         sym (line_stops _ _ _ c.loop-i-test.true c.byte.ensures c.is_digit.ensures (not-true _ (ap not c.if-not-is_digit.true))) ∙ c.loop-i.invariant.1.1
-
-pub overflow_step-i : goal.overflow_step-i
-overflow_step-i c = omega arith
-
-pub loop-i-smaller : goal.loop-i-smaller
-loop-i-smaller c = omega arith
 
 pub loop-i-preserved : goal.loop-i-preserved
 loop-i-preserved c = (

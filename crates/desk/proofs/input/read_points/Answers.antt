@@ -10,20 +10,8 @@ use Rattle.desk.proofs.input.read_points.Goals as goal
 pub loop-i-init : goal.loop-i-init
 loop-i-init c = fill_start (omega arith)
 
-pub count_at-requires : goal.count_at-requires
-count_at-requires c = omega arith
-
-pub offset_bounds-points-i : goal.offset_bounds-points-i
-offset_bounds-points-i c = omega arith
-
 pub bounds-points-i : goal.bounds-points-i
 bounds-points-i c = omega (arith, fill_length c.loop-i.invariant)
-
-pub overflow_step-i : goal.overflow_step-i
-overflow_step-i c = omega arith
-
-pub loop-i-smaller : goal.loop-i-smaller
-loop-i-smaller c = omega arith
 
 pub loop-i-preserved : goal.loop-i-preserved
 loop-i-preserved c = fill_step c.loop-i.invariant c.loop-i-test.true _ _ (omega arith) (to_z-of_z {w = w16} (record { sfits = c.count_at.type_inv }) ∙ c.count_at.ensures)

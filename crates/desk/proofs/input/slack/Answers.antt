@@ -10,12 +10,6 @@ pub loop-init : goal.loop-init
 unfolding of_bits of_int
 loop-init c = (omega arith, refl)
 
-pub overflow_step : goal.overflow_step
-overflow_step c = omega arith
-
-pub loop-smaller : goal.loop-smaller
-loop-smaller c = omega arith
-
 pub loop-preserved : goal.loop-preserved
 unfolding of_bits of_int
 loop-preserved c = (omega arith, ap (λ (x : Float). mul binary64 x (float 2)) c.loop.invariant.1 ∙ double c.loop.counter (omega arith))

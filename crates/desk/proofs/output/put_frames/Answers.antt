@@ -6,26 +6,8 @@ use Rattle.desk.proofs.output.put_frames.Goals as goal
 pub loop-i-init : goal.loop-i-init
 loop-i-init c = laid_start c.args.kinds.now c.args.labels.now c.args.output.now (omega arith)
 
-pub overflow_mul-i : goal.overflow_mul-i
-overflow_mul-i c = omega arith
-
-pub bounds-kinds-i : goal.bounds-kinds-i
-bounds-kinds-i c = omega arith
-
-pub offset_bounds-labels-i : goal.offset_bounds-labels-i
-offset_bounds-labels-i c = omega arith
-
-pub bounds-labels-i : goal.bounds-labels-i
-bounds-labels-i c = omega arith
-
 pub put_frame-requires : goal.put_frame-requires
 put_frame-requires c = omega (arith, laid_length c.loop-i.invariant)
-
-pub overflow_step-i : goal.overflow_step-i
-overflow_step-i c = omega arith
-
-pub loop-i-smaller : goal.loop-i-smaller
-loop-i-smaller c = omega arith
 
 pub loop-i-preserved : goal.loop-i-preserved
 loop-i-preserved c = laid_step c.loop-i.invariant c.loop-i-test.true c.put_frame.ensures
