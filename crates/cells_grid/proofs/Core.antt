@@ -14,9 +14,9 @@ use borrow.Author.Tests.{le-leb, lt-leb}
 use Rattle.lists.specs.Lists.{numbers, any, how_many}
 use Rattle.lists.specs.ListLaws.{true_T, T_true, T_or_not, not_turn, any_in, any_none, map_same, numbers_in, in_numbers, at_numbers, length_numbers}
 use Rattle.lists.specs.Words.{over, column, Clear, Apart}
-use Rattle.lists.specs.WordLaws.{over_length, over_apart, over_again}
-use Rattle.lists.specs.PartLaws.{column_replicate, get_laid, get_above, clear_over, clear_before, clear_after, clear_within}
-use Rattle.lists.specs.LoopLaws.{Fill, fill_start, fill_length, fill_end}
+use Rattle.lists.proofs.WordLaws.{over_length, over_apart, over_again}
+use Rattle.lists.proofs.PartLaws.{column_replicate, get_laid, get_above, clear_over, clear_before, clear_after, clear_within}
+use Rattle.lists.proofs.LoopLaws.{Fill, fill_start, fill_length, fill_end}
 use Rattle.hyperparams.specs.declared.ValidParams.{ValidParams}
 use Rattle.counting_tree.specs.Domain.{Counts}
 use Rattle.counting_tree.specs.Geometry.{Geometry}

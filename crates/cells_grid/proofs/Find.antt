@@ -18,10 +18,10 @@ use Rattle.lists.specs.ListLaws.{both_ways, in_keep}
 use Rattle.lists.specs.CountLaws.{keep_keep}
 use Rattle.lists.specs.OrderLaws.{kept_snoc, many_snoc, kept_le, keep_low, kept_split, many_less}
 use Rattle.lists.specs.Words.{over}
-use Rattle.lists.specs.WordLaws.{over_length, over_nil, set_over}
-use Rattle.lists.specs.PartLaws.{set_under}
+use Rattle.lists.proofs.WordLaws.{over_length, over_nil, set_over}
+use Rattle.lists.proofs.PartLaws.{set_under}
 use Rattle.lists.specs.Buckets.{last_with, hash_of, bucket, in_bucket, Bucketed}
-use Rattle.lists.specs.BucketLaws.{Walk, last_le, last_more, last_hit, last_gap, last_within, walk_start, walk_next, bucket_next, bucketed_same}
+use Rattle.lists.proofs.BucketLaws.{Walk, last_le, last_more, last_hit, last_gap, last_within, walk_start, walk_next, bucket_next, bucketed_same}
 use Rattle.hyperparams.specs.Params.{max_frames}
 use Rattle.hyperparams.specs.declared.ValidParams.{ValidParams}
 use Rattle.counting_tree.specs.Frames.{frames_in}

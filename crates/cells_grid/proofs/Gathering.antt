@@ -8,7 +8,7 @@ use native.Mathlib.Omega.{arith}
 use lib.IntN.{ℤ}
 use lib.ListN.{length, get_or, length-append}
 use Rattle.lists.specs.Words.{over}
-use Rattle.lists.specs.WordLaws.{over_length, over_nil, over_next}
+use Rattle.lists.proofs.WordLaws.{over_length, over_nil, over_next}
 use Rattle.hyperparams.specs.declared.ValidParams.{ValidParams}
 use Rattle.counting_tree.specs.Geometry.{Geometry}
 use Rattle.counting_tree.specs.Ready.{geometry_at, Ready, at_frames}

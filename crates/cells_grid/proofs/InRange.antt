@@ -6,7 +6,7 @@ use native.Mathlib.Omega.{arith}
 use lib.IntN.{ℤ}
 use lib.ListN.{length, get_or}
 use Rattle.lists.specs.Lists.{how_many}
-use Rattle.lists.specs.LoopLaws.{Scan, scan_start}
+use Rattle.lists.proofs.LoopLaws.{Scan, scan_start}
 use Rattle.hyperparams.specs.declared.ValidParams.{ValidParams}
 use Rattle.counting_tree.specs.Geometry.{Geometry}
 use Rattle.counting_tree.specs.Ready.{geometry_at, Ready, at_frames}

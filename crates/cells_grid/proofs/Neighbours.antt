@@ -15,8 +15,8 @@ use Rattle.lists.specs.ListLaws.{T_false, not_turn, and_right, in_keep, in_appen
 use Rattle.lists.specs.OrderLaws.{kept_le, total_round}
 use Rattle.lists.specs.CountLaws.{keep_append, how_many_cons, length_concat}
 use Rattle.lists.specs.PermLaws.{perm_length}
-use Rattle.lists.specs.LoopLaws.{Sum, sum_start, sum_stop, sum_more, sum_end}
-use Rattle.lists.specs.PartLaws.{part_first, part_below}
+use Rattle.lists.proofs.LoopLaws.{Sum, sum_start, sum_stop, sum_more, sum_end}
+use Rattle.lists.proofs.PartLaws.{part_first, part_below}
 use Rattle.hyperparams.specs.declared.ValidParams.{ValidParams}
 use Rattle.counting_tree.specs.Frames.{frames_in, squared}
 use Rattle.counting_tree.specs.Geometry.{Geometry, geometry_of}

@@ -14,9 +14,9 @@ use Rattle.lists.specs.Words.{over, part, column, rest, Clear}
 use Rattle.lists.specs.Sorting.{begin_in, start_of, Sorted}
 use Rattle.lists.specs.CountLaws.{keep_le, total_append}
 use Rattle.lists.specs.OrderLaws.{numbers_snoc}
-use Rattle.lists.specs.LoopLaws.{rest_start, rest_step, rest_end}
-use Rattle.lists.specs.PartLaws.{part_length, part_step, part_below, holds_at}
-use Rattle.lists.specs.SortLaws.{start_le, start_mono, begin_at, begin_first, begin_later}
+use Rattle.lists.proofs.LoopLaws.{rest_start, rest_step, rest_end}
+use Rattle.lists.proofs.PartLaws.{part_length, part_step, part_below, holds_at}
+use Rattle.lists.proofs.SortLaws.{start_le, start_mono, begin_at, begin_first, begin_later}
 use Rattle.hyperparams.specs.declared.ValidParams.{ValidParams}
 use Rattle.counting_tree.specs.Domain.{Counts}
 use Rattle.counting_tree.specs.Ready.{geometry_at}

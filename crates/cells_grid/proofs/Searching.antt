@@ -15,8 +15,8 @@ use Rattle.lists.specs.Words.{over, part}
 use Rattle.lists.specs.Sorting.{numbered}
 use Rattle.lists.specs.ListLaws.{append_one, append_two}
 use Rattle.lists.specs.CountLaws.{keep_append}
-use Rattle.lists.specs.WordLaws.{over_length, over_nil, over_snoc, over_next}
-use Rattle.lists.specs.PartLaws.{get_under, part_step, part_under}
+use Rattle.lists.proofs.WordLaws.{over_length, over_nil, over_snoc, over_next}
+use Rattle.lists.proofs.PartLaws.{get_under, part_step, part_under}
 use Rattle.hyperparams.specs.declared.ValidParams.{ValidParams}
 use Rattle.counting_tree.specs.Geometry.{Geometry}
 use Rattle.counting_tree.specs.Ready.{geometry_at, Ready, at_frames}

@@ -17,9 +17,9 @@ use Rattle.lists.specs.ListLaws.{true_T, and_left, and_right, and_both, in_keep,
 use Rattle.lists.specs.CountLaws.{keep_append, keep_le, keep_all}
 use Rattle.lists.specs.OrderLaws.{kept_le}
 use Rattle.lists.specs.PermLaws.{perm_same, perm_length}
-use Rattle.lists.specs.WordLaws.{over_again}
-use Rattle.lists.specs.PartLaws.{get_under, part_at, clear_over, clear_within}
-use Rattle.lists.specs.SortLaws.{sorted_over, start_le, start_of_all, places_of_length, places_of_below, begin_at}
+use Rattle.lists.proofs.WordLaws.{over_again}
+use Rattle.lists.proofs.PartLaws.{get_under, part_at, clear_over, clear_within}
+use Rattle.lists.proofs.SortLaws.{sorted_over, start_le, start_of_all, places_of_length, places_of_below, begin_at}
 use Rattle.hyperparams.specs.declared.ValidParams.{ValidParams}
 use Rattle.counting_tree.specs.Frames.{squared}
 use Rattle.counting_tree.specs.Geometry.{Geometry, geometry_of, near}

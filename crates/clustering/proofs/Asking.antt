@@ -9,8 +9,8 @@ use borrow.Rule.Slice.PartMut.{put_mid}
 use Rattle.lists.specs.Lists.{In, Below}
 use Rattle.lists.specs.Words.{over, part, column, Clear}
 use Rattle.lists.specs.ListLaws.{at_in}
-use Rattle.lists.specs.WordLaws.{over_again, over_length}
-use Rattle.lists.specs.PartLaws.{part_length, part_same, part_under, part_at}
+use Rattle.lists.proofs.WordLaws.{over_again, over_length}
+use Rattle.lists.proofs.PartLaws.{part_length, part_same, part_under, part_at}
 use Rattle.hyperparams.specs.Params.{max_frames}
 use Rattle.hyperparams.specs.declared.ValidParams.{ValidParams}
 use Rattle.counting_tree.specs.Geometry.{Geometry}

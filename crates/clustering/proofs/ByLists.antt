@@ -13,9 +13,9 @@ use lib.Seq.{drop-cons}
 use Rattle.lists.specs.Lists.{In, nonzero}
 use Rattle.lists.specs.Words.{over, part, rest, Clear}
 use Rattle.lists.specs.ListLaws.{true_T, at_in, keep_same}
-use Rattle.lists.specs.WordLaws.{over_self, over_again, over_length, over_apart}
-use Rattle.lists.specs.PartLaws.{part_length, part_same, part_under, part_above, part_at, get_above, clear_after}
-use Rattle.lists.specs.LoopLaws.{rest_step, rest_end}
+use Rattle.lists.proofs.WordLaws.{over_self, over_again, over_length, over_apart}
+use Rattle.lists.proofs.PartLaws.{part_length, part_same, part_under, part_above, part_at, get_above, clear_after}
+use Rattle.lists.proofs.LoopLaws.{rest_step, rest_end}
 use Rattle.hyperparams.specs.declared.ValidParams.{ValidParams}
 use Rattle.counting_tree.specs.Geometry.{Geometry}
 use Rattle.counting_tree.specs.Ready.{geometry_at, Ready}

@@ -11,9 +11,9 @@ use borrow.Author.Tests.{lt-ltb, le-ltb}
 use borrow.Rule.Slice.PartMut.{put_mid}
 use Rattle.lists.specs.Words.{over, part, rest}
 use Rattle.lists.specs.ListLaws.{true_T, T_true, not_turn}
-use Rattle.lists.specs.WordLaws.{over_self}
-use Rattle.lists.specs.PartLaws.{part_length, part_above, part_at}
-use Rattle.lists.specs.LoopLaws.{rest_step, rest_end}
+use Rattle.lists.proofs.WordLaws.{over_self}
+use Rattle.lists.proofs.PartLaws.{part_length, part_above, part_at}
+use Rattle.lists.proofs.LoopLaws.{rest_step, rest_end}
 use Rattle.hyperparams.specs.declared.ValidParams.{ValidParams}
 use Rattle.counting_tree.specs.Frames.{Frame, frames_in}
 use Rattle.counting_tree.specs.Geometry.{Geometry, frame, N}

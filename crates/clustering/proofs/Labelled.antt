@@ -12,7 +12,7 @@ use Rattle.lists.specs.Lists.{numbers, keep, head_or, In, nonzero}
 use Rattle.lists.specs.Words.{part, column}
 use Rattle.lists.specs.ListLaws.{true_T, cond_true, and_right, in_keep, in_numbers, keep_same}
 use Rattle.lists.specs.CountLaws.{keep_keep, keep_map}
-use Rattle.lists.specs.PartLaws.{holds_at}
+use Rattle.lists.proofs.PartLaws.{holds_at}
 use Rattle.hyperparams.specs.declared.ValidParams.{ValidParams}
 use Rattle.counting_tree.specs.Geometry.{Geometry}
 use Rattle.counting_tree.specs.Ready.{geometry_at, Ready}

@@ -11,8 +11,8 @@ use borrow.Rule.Slice.PartMut.{put_mid}
 use Rattle.lists.specs.Lists.{numbers, In}
 use Rattle.lists.specs.Words.{over, part, column, Clear}
 use Rattle.lists.specs.ListLaws.{map_same, in_numbers, length_numbers}
-use Rattle.lists.specs.WordLaws.{over_again, over_length, over_apart}
-use Rattle.lists.specs.PartLaws.{part_length, part_same, clear_after}
+use Rattle.lists.proofs.WordLaws.{over_again, over_length, over_apart}
+use Rattle.lists.proofs.PartLaws.{part_length, part_same, clear_after}
 use Rattle.hyperparams.specs.declared.ValidParams.{ValidParams}
 use Rattle.counting_tree.specs.Geometry.{Geometry}
 use Rattle.counting_tree.specs.Ready.{geometry_at, Ready}

@@ -8,8 +8,8 @@ use lib.IntN.{ℤ}
 use lib.ListN.{length, replicate}
 use Rattle.lists.specs.Words.{over, column, Clear, Apart}
 use Rattle.lists.specs.Sorting.{places_of, start_of}
-use Rattle.lists.specs.WordLaws.{over_length}
-use Rattle.lists.specs.PartLaws.{clear_after, clear_within}
+use Rattle.lists.proofs.WordLaws.{over_length}
+use Rattle.lists.proofs.PartLaws.{clear_after, clear_within}
 use Rattle.hyperparams.specs.declared.ValidParams.{ValidParams}
 use Rattle.counting_tree.specs.Ready.{geometry_at, Ready}
 use Rattle.blocks.specs.Blocks.{sorted_by}

@@ -9,9 +9,9 @@ use Rattle.lists.specs.Lists.{numbers, Below}
 use Rattle.lists.specs.Words.{over, part, column, rest, Clear}
 use Rattle.lists.specs.ListLaws.{in_from, length_numbers}
 use Rattle.lists.specs.OrderLaws.{numbers_split}
-use Rattle.lists.specs.WordLaws.{over_self, over_again, over_length, over_apart}
-use Rattle.lists.specs.PartLaws.{part_length, part_same, part_under, part_above, over_cover, holds_at}
-use Rattle.lists.specs.SortLaws.{places_of_below}
+use Rattle.lists.proofs.WordLaws.{over_self, over_again, over_length, over_apart}
+use Rattle.lists.proofs.PartLaws.{part_length, part_same, part_under, part_above, over_cover, holds_at}
+use Rattle.lists.proofs.SortLaws.{places_of_below}
 use Rattle.hyperparams.specs.Params.{max_frames}
 use Rattle.hyperparams.specs.declared.ValidParams.{ValidParams}
 use Rattle.counting_tree.specs.Geometry.{Geometry}

@@ -11,7 +11,7 @@ use lib.ListN.{length, get_or}
 use Rattle.lists.specs.Lists.{keep, any, In, Below, nonzero}
 use Rattle.lists.specs.Words.{part}
 use Rattle.lists.specs.ListLaws.{any_none}
-use Rattle.lists.specs.PartLaws.{part_first}
+use Rattle.lists.proofs.PartLaws.{part_first}
 use Rattle.hyperparams.specs.declared.ValidParams.{ValidParams}
 use Rattle.counting_tree.specs.Geometry.{Geometry}
 use Rattle.counting_tree.specs.Ready.{geometry_at, Ready}

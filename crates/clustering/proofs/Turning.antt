@@ -11,8 +11,8 @@ use lib.ListN.{length, get_or}
 use Rattle.lists.specs.Lists.{any, In, nonzero}
 use Rattle.lists.specs.Words.{part, rest}
 use Rattle.lists.specs.ListLaws.{true_T, T_true, any_in}
-use Rattle.lists.specs.PartLaws.{part_at}
-use Rattle.lists.specs.LoopLaws.{rest_start, rest_step, rest_end}
+use Rattle.lists.proofs.PartLaws.{part_at}
+use Rattle.lists.proofs.LoopLaws.{rest_start, rest_step, rest_end}
 use Rattle.hyperparams.specs.declared.ValidParams.{ValidParams}
 use Rattle.counting_tree.specs.Geometry.{Geometry}
 use Rattle.counting_tree.specs.Ready.{geometry_at, Ready}

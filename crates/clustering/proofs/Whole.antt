@@ -10,8 +10,8 @@ use lib.ListN.{length, replicate, length-append, length-replicate}
 use Rattle.lists.specs.Lists.{numbers, how_many}
 use Rattle.lists.specs.Words.{over, part, column, Clear}
 use Rattle.lists.specs.ListLaws.{map_same, in_numbers, length_numbers}
-use Rattle.lists.specs.WordLaws.{over_again, over_length, over_next, over_apart}
-use Rattle.lists.specs.PartLaws.{part_same, part_under, holds_at}
+use Rattle.lists.proofs.WordLaws.{over_again, over_length, over_next, over_apart}
+use Rattle.lists.proofs.PartLaws.{part_same, part_under, holds_at}
 use Rattle.hyperparams.specs.Params.{max_frames}
 use Rattle.hyperparams.specs.declared.ValidParams.{ValidParams}
 use Rattle.counting_tree.specs.Geometry.{Geometry}

@@ -8,7 +8,7 @@ use mathlib.Core.List.{List, Permᴰ}
 use Rattle.std.proofs.Math.Option.{Option, none, some, map, none-ne-some, some-ne-none, some_inj, map-eq-some_iff}
 use Rattle.lists.specs.Lists.{keep, groups, In}
 use Rattle.lists.specs.ListLaws.{T_or_not, cond_true, cond_false, keep_in, in_keep, keep_same, in_any, in_nonzero}
-use Rattle.lists.specs.GroupLaws.{groups_in_lem, group_is}
+use Rattle.lists.proofs.GroupLaws.{groups_in_lem, group_is}
 use Rattle.lists.specs.PermLaws.{perm_same}
 use Rattle.counting_tree.specs.Geometry.{Geometry}
 use Rattle.counting_tree.specs.Paths.{reaches}

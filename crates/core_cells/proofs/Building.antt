@@ -10,8 +10,8 @@ use lib.ListN.{length, get_or, set, replicate, length-replicate}
 use Rattle.lists.specs.Lists.{Below, nonzero}
 use Rattle.lists.specs.Words.{over, part, Clear}
 use Rattle.lists.specs.ListLaws.{nonzero_true}
-use Rattle.lists.specs.WordLaws.{over_length, over_nil, over_again, over_apart, set_over}
-use Rattle.lists.specs.PartLaws.{set_under, part_same, clear_over, clear_after, clear_within}
+use Rattle.lists.proofs.WordLaws.{over_length, over_nil, over_again, over_apart, set_over}
+use Rattle.lists.proofs.PartLaws.{set_under, part_same, clear_over, clear_after, clear_within}
 use Rattle.hyperparams.specs.Params.{max_frames, work_words}
 use Rattle.hyperparams.specs.declared.ValidParams.{ValidParams}
 use Rattle.counting_tree.specs.Geometry.{Geometry}

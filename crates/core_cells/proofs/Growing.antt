@@ -6,8 +6,8 @@ use native.Mathlib.Omega.{arith}
 use lib.ListN.{length}
 use Rattle.lists.specs.Words.{over, column, Clear}
 use Rattle.lists.specs.ListLaws.{length_numbers}
-use Rattle.lists.specs.WordLaws.{over_length, over_nil, over_next, over_apart}
-use Rattle.lists.specs.PartLaws.{column_snoc, clear_before, clear_after}
+use Rattle.lists.proofs.WordLaws.{over_length, over_nil, over_next, over_apart}
+use Rattle.lists.proofs.PartLaws.{column_snoc, clear_before, clear_after}
 use Rattle.counting_tree.specs.Geometry.{Geometry}
 use Rattle.cells_grid.specs.Arrangement.{Cored}
 use Rattle.cells_grid.specs.ArrangementLaws.{cored_over}

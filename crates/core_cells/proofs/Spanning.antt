@@ -13,7 +13,7 @@ use Rattle.lists.specs.Lists.{In, Below}
 use Rattle.lists.specs.Words.{over, part}
 use Rattle.lists.specs.ListLaws.{map_same}
 use Rattle.lists.specs.OrderLaws.{below_at}
-use Rattle.lists.specs.PartLaws.{part_step}
+use Rattle.lists.proofs.PartLaws.{part_step}
 use Rattle.hyperparams.specs.declared.ValidParams.{ValidParams}
 use Rattle.counting_tree.specs.Frames.{Frame, frames_in}
 use Rattle.counting_tree.specs.Geometry.{Geometry, frame, N}

@@ -13,8 +13,8 @@ use Rattle.lists.specs.Lists.{keep, Below, nonzero}
 use Rattle.lists.specs.Words.{over, part, column}
 use Rattle.lists.specs.ListLaws.{true_T, nonzero_true, T_or_not, keep_same, length_numbers}
 use Rattle.lists.specs.CountLaws.{keep_le}
-use Rattle.lists.specs.WordLaws.{over_length}
-use Rattle.lists.specs.PartLaws.{part_part, part_under, part_above, part_same, holds_at}
+use Rattle.lists.proofs.WordLaws.{over_length}
+use Rattle.lists.proofs.PartLaws.{part_part, part_under, part_above, part_same, holds_at}
 use Rattle.hyperparams.specs.Params.{max_frames}
 use Rattle.counting_tree.specs.declared.IntersectionType.{IntersectionType}
 use Rattle.counting_tree.specs.declared.IntersectionType.TheVariants.{Disjoint, FullyCovered, Intersecting}

@@ -3,7 +3,7 @@ use Rattle.std.specs.Prelude.{◌≡◌, Bool, true, false, List, ℕ, ◌<◌, 
 use Rattle.std.proofs.Common.{sym, ap, ◌∙◌, arith}
 use Rattle.lists.specs.Lists.{In, any, nonzero}
 use Rattle.lists.specs.ListLaws.{true_T, T_true, any_in, any_none}
-use Rattle.lists.specs.PartLaws.{part_same}
+use Rattle.lists.proofs.PartLaws.{part_same}
 use Rattle.hyperparams.specs.declared.ValidParams.{ValidParams}
 use Rattle.hyperparams.specs.Params.{float}
 use Rattle.counting_tree.specs.declared.IntersectionType.{IntersectionType}

@@ -3,9 +3,9 @@ use Rattle.std.proofs.Common.{◌≡◌, ℕ, ◌*◌, ◌/◌, ◌<◌, ◌≤�
 use Rattle.std.proofs.lemmas.List.{length-replicate}
 use Rattle.lists.specs.Words.{over, column, Clear}
 use Rattle.lists.specs.ListLaws.{length_numbers}
-use Rattle.lists.specs.WordLaws.{over_length}
-use Rattle.lists.specs.PartLaws.{clear_within}
-use Rattle.lists.specs.Within.{Within, within_over, within_more, within_clear, made_clear}
+use Rattle.lists.proofs.WordLaws.{over_length}
+use Rattle.lists.proofs.PartLaws.{clear_within}
+use Rattle.lists.proofs.Within.{Within, within_over, within_more, within_clear, made_clear}
 use Rattle.hyperparams.specs.Params.{work_words, max_frames, checked_of}
 use Rattle.hyperparams.specs.Accepted.{Accepted, accepted}
 use Rattle.hyperparams.specs.declared.Params.{Params}
