@@ -16,7 +16,7 @@ use Rattle.counting_tree.specs.Geometry.{Geometry, geometry_of, frame, N, near}
 use Rattle.counting_tree.specs.Domain.{Counts}
 use Rattle.counting_tree.specs.Paths as Paths
 use Rattle.counting_tree.specs.Ready.{geometry_at, Ready, at_frames}
-use Rattle.counting_tree.specs.Reach.{near_reaches}
+use Rattle.counting_tree.proofs.Reach.{near_reaches}
 use Rattle.cells_grid.specs.Cells.{cells, core, core_members, core_cell}
 use Rattle.cells_grid.specs.Lawful.{Lawful}
 use Rattle.cells_grid.specs.Ready.{ready_lawful}

@@ -27,7 +27,7 @@ use Rattle.counting_tree.specs.Paths.{on_box}
 use Rattle.counting_tree.specs.Domain.{Counts}
 use Rattle.counting_tree.specs.Ready.{geometry_at, Ready, at_frames, square_fits}
 use Rattle.counting_tree.specs.Indexes.{box_level}
-use Rattle.counting_tree.specs.Reach.{near_reaches}
+use Rattle.counting_tree.proofs.Reach.{near_reaches}
 use Rattle.counting_tree.specs.Settled.{settled_by}
 use Rattle.counting_tree.specs.SettledLaws.{settled_disjoint, settled_covered}
 use Rattle.cells_grid.specs.Cells.{node, count}
