@@ -20,8 +20,8 @@ use Rattle.cells_grid.specs.Cells.{cells, core}
 use Rattle.cells_grid.specs.Lawful.{Lawful}
 use Rattle.cells_grid.specs.Ready.{ready_lawful}
 use Rattle.cells_grid.specs.Arrangement.{core_bit, Arranged, Cored}
-use Rattle.cells_grid.specs.ArrangementLaws as ArrangementLaws
-use Rattle.cells_grid.specs.ArrangementLaws.{cells_le, cored, core_word, populated_arranged}
+use Rattle.cells_grid.proofs.ArrangementLaws as ArrangementLaws
+use Rattle.cells_grid.proofs.ArrangementLaws.{cells_le, cored, core_word, populated_arranged}
 use Rattle.cells_grid.specs.Places.{populated}
 use Rattle.core_cells.specs.Forest.{tree_word, forest_to, Grown}
 use Rattle.core_cells.specs.ForestLaws.{grown_over}

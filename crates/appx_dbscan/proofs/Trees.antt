@@ -16,7 +16,7 @@ use Rattle.counting_tree.specs.Geometry.{Geometry}
 use Rattle.counting_tree.specs.Ready.{geometry_at, Ready, at_frames, at_levels}
 use Rattle.cells_grid.specs.Ready.{ready_lawful}
 use Rattle.cells_grid.specs.Arrangement.{Cored}
-use Rattle.cells_grid.specs.ArrangementLaws.{cells_le}
+use Rattle.cells_grid.proofs.ArrangementLaws.{cells_le}
 use Rattle.core_cells.specs.Forest.{tree_word, forest_to, Grown}
 use Rattle.core_cells.specs.ForestLaws.{forest_length, nodes_fewer, nodes_fit, grown, grown_over}
 

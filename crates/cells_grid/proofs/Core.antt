@@ -26,15 +26,15 @@ use Rattle.cells_grid.specs.Lawful.{Lawful}
 use Rattle.cells_grid.specs.Arrangement.{cell_at, core_bit, Arranged}
 use Rattle.cells_grid.specs.Places.{end_in}
 use Rattle.cells_grid.specs.Ready.{ready_lawful}
-use Rattle.cells_grid.specs.ArrangementLaws.{number_below, members_number, words_count, words_room, number_word, cell_size, arranged_over}
+use Rattle.cells_grid.proofs.ArrangementLaws.{number_below, members_number, words_count, words_room, number_word, cell_size, arranged_over}
 use Rattle.lists.specs.Sorting.{start_of, places_of, key_in, Sortable, Sorted}
 use Rattle.blocks.specs.Blocks.{width, bucket_of, frame_at, key_for, sorted_by}
 use Rattle.blocks.specs.RowLaws.{key_below}
 use Rattle.blocks.specs.SortedLaws.{places_long, sorted_length, sorted_after, sorted_under, sorted_cleared, can_sort, keys_cleared}
 use Rattle.cells_grid.specs.Crowding.{itself, every, frame_key}
 use Rattle.cells_grid.specs.Pairs.{Laid, others}
-use Rattle.cells_grid.specs.RaisedLaws.{laid_over}
-use Rattle.cells_grid.specs.PairLaws.{others_more}
+use Rattle.cells_grid.proofs.RaisedLaws.{laid_over}
+use Rattle.cells_grid.proofs.PairLaws.{others_more}
 
 -- the count of the cells is that of the definition
 pub all_cells : {g : Geometry} {k : ℕ} {w : List ℕ} → Arranged g k w → Arranged g (length (cells g)) w

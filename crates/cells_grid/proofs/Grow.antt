@@ -28,7 +28,7 @@ use Rattle.cells_grid.specs.Arrangement.{arranged, start_at}
 use Rattle.cells_grid.specs.Hashing.{frame_bucket, cell_bucket, chained}
 use Rattle.cells_grid.specs.HashingLaws.{frame_bucket_below}
 use Rattle.cells_grid.specs.Ready.{ready_lawful}
-use Rattle.cells_grid.specs.ArrangementLaws.{cells_le, number_below, start_by_number, arranged_by_number}
+use Rattle.cells_grid.proofs.ArrangementLaws.{cells_le, number_below, start_by_number, arranged_by_number}
 use Rattle.cells_grid.proofs.Find.{new_cell_at}
 
 -- ---- frames are inserted: those before i, in k cells; `scratch` is what stands in the words of the buckets

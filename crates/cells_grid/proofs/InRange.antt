@@ -15,7 +15,7 @@ use Rattle.cells_grid.specs.Lawful.{Lawful}
 use Rattle.cells_grid.specs.Arrangement.{cell_at, Arranged}
 use Rattle.cells_grid.specs.Places.{end_in}
 use Rattle.cells_grid.specs.Ready.{ready_lawful}
-use Rattle.cells_grid.specs.ArrangementLaws.{words_count, words_room, cell_size, cell_end_le, cell_places, place_below}
+use Rattle.cells_grid.proofs.ArrangementLaws.{words_count, words_room, cell_size, cell_end_le, cell_places, place_below}
 
 module _ {ps : List ℤ} {v : ValidParams} {n k i c : ℕ} {w : List ℕ} (p : Ready ps v n × Arranged (geometry_at v n ps) k w × (i < n) × (c < k)) where
   abbrev g : Geometry

@@ -30,9 +30,9 @@ use Rattle.blocks.specs.RowLaws.{around_low, found_order}
 use Rattle.blocks.specs.SortedLaws.{Stretched, stretch_holds}
 use Rattle.cells_grid.specs.Cells.{first, cells, cell_number, listed, neighbour}
 use Rattle.cells_grid.specs.Lawful.{Lawful}
-use Rattle.cells_grid.specs.CellLaws.{first_in, number_cell}
+use Rattle.cells_grid.proofs.CellLaws.{first_in, number_cell}
 use Rattle.cells_grid.specs.Arrangement.{Arranged}
-use Rattle.cells_grid.specs.ArrangementLaws.{number_below, words_count, words_room, number_word, first_word}
+use Rattle.cells_grid.proofs.ArrangementLaws.{number_below, words_count, words_room, number_word, first_word}
 use Rattle.cells_grid.specs.Ready.{ready_lawful}
 use Rattle.cells_grid.specs.Crowding.{itself, every, frame_key, neighbour_in, neighbours_in}
 

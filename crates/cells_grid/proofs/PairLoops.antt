@@ -27,8 +27,8 @@ use Rattle.blocks.specs.OwnRowLaws.{own_which, rows_own}
 use Rattle.cells_grid.specs.Cells.{first, neighbour}
 use Rattle.cells_grid.specs.Crowding.{neighbour_in}
 use Rattle.cells_grid.specs.Pairs.{raised, Room, size_in, squares_in, Laid, row_for, low_in, later_in, later_row, later_of, risen, others}
-use Rattle.cells_grid.specs.RaisedLaws.{raised_part, raised_above, raised_set, many_fits, Raising, raising_start, raising_length, raising_room, raising_more, raising_end, raising_left, laid_raised}
-use Rattle.cells_grid.specs.PairLaws.{later_few, all_room, all_counted}
+use Rattle.cells_grid.proofs.RaisedLaws.{raised_part, raised_above, raised_set, many_fits, Raising, raising_start, raising_length, raising_room, raising_more, raising_end, raising_left, laid_raised}
+use Rattle.cells_grid.proofs.PairLaws.{later_few, all_room, all_counted}
 use Rattle.cells_grid.proofs.Neighbours.{stretch_fits, rest_fits, rest_short, row_parts}
 
 -- ---- one frame

@@ -19,7 +19,7 @@ use Rattle.counting_tree.specs.Ready.{geometry_at, Ready}
 use Rattle.cells_grid.specs.Cells.{cells, cell_number, listed, count}
 use Rattle.cells_grid.specs.Arrangement.{cell_at, Arranged}
 use Rattle.cells_grid.specs.Listing.{list_of, CellsSorted}
-use Rattle.cells_grid.specs.ListingLaws.{list_sound, list_complete, list_length, list_cleared}
+use Rattle.cells_grid.proofs.ListingLaws.{list_sound, list_complete, list_length, list_cleared}
 use Rattle.core_cells.specs.Forest.{Grown}
 use Rattle.core_cells.specs.ForestLaws.{grown_over}
 use Rattle.clustering.specs.Numbering.{borders_at}

@@ -22,7 +22,7 @@ use Rattle.counting_tree.specs.Ready.{geometry_at, Ready}
 use Rattle.cells_grid.specs.Cells.{cells}
 use Rattle.cells_grid.specs.Arrangement.{Arranged}
 use Rattle.cells_grid.specs.Listing.{unmarked, later_of, CellsSorted, MarkedRuns}
-use Rattle.cells_grid.specs.ListingLaws.{in_unmarked, later_sound, unmarked_later_length, unmarked_later_cleared, cells_sorted_over}
+use Rattle.cells_grid.proofs.ListingLaws.{in_unmarked, later_sound, unmarked_later_length, unmarked_later_cleared, cells_sorted_over}
 use Rattle.core_cells.specs.Forest.{Grown}
 use Rattle.core_cells.specs.ForestLaws.{grown_over}
 use Rattle.partitions.specs.Leaders.{Falling, root}

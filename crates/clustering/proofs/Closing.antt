@@ -22,7 +22,7 @@ use Rattle.counting_tree.specs.Ready.{geometry_at, Ready}
 use Rattle.cells_grid.specs.Cells.{core}
 use Rattle.cells_grid.specs.Arrangement.{cell_at}
 use Rattle.cells_grid.specs.Listing.{sorted_count, CellsSorted}
-use Rattle.cells_grid.specs.ListingLaws.{sorted_few, sorted_cell}
+use Rattle.cells_grid.proofs.ListingLaws.{sorted_few, sorted_cell}
 use Rattle.core_cells.specs.Forest.{Grown}
 use Rattle.partitions.specs.Leaders.{Falling, root, shorten_both, united}
 use Rattle.partitions.specs.TrialLaws.{Within}

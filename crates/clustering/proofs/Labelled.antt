@@ -18,9 +18,9 @@ use Rattle.counting_tree.specs.Geometry.{Geometry}
 use Rattle.counting_tree.specs.Ready.{geometry_at, Ready}
 use Rattle.cells_grid.specs.Cells.{first, cells, cell_number, listed, core, core_cell, count}
 use Rattle.cells_grid.specs.Lawful.{Lawful}
-use Rattle.cells_grid.specs.CellLaws.{first_same, first_in, number_cell, core_first, in_core_cell, core_cell_in}
+use Rattle.cells_grid.proofs.CellLaws.{first_same, first_in, number_cell, core_first, in_core_cell, core_cell_in}
 use Rattle.cells_grid.specs.Arrangement.{cell_at}
-use Rattle.cells_grid.specs.ArrangementLaws.{cell_at_lem, list_by_number}
+use Rattle.cells_grid.proofs.ArrangementLaws.{cell_at_lem, list_by_number}
 use Rattle.core_cells.specs.Forest.{Grown}
 use Rattle.clustering.specs.Clusters.{place, clusters, touched, label_by, kind_of}
 use Rattle.clustering.specs.ClusterLaws.{number_low, core_label, border_label_lem, noise_label}

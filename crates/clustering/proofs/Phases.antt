@@ -18,7 +18,7 @@ use Rattle.counting_tree.specs.Geometry.{Geometry}
 use Rattle.counting_tree.specs.Ready.{geometry_at, Ready}
 use Rattle.cells_grid.specs.Cells.{cells}
 use Rattle.cells_grid.specs.Listing.{later_of, CellsSorted}
-use Rattle.cells_grid.specs.ListingLaws.{cells_sorted_over}
+use Rattle.cells_grid.proofs.ListingLaws.{cells_sorted_over}
 use Rattle.core_cells.specs.Forest.{Grown}
 use Rattle.core_cells.specs.ForestLaws.{grown_over}
 use Rattle.partitions.specs.Leaders.{Falling, root}

@@ -16,7 +16,7 @@ use Rattle.blocks.specs.Blocks.{sorted_by}
 use Rattle.blocks.specs.SortedLaws.{places_long, ends_long, sorted_length, sorted_after, sorted_under, sorted_cleared}
 use Rattle.cells_grid.specs.Cells.{cells}
 use Rattle.cells_grid.specs.Listing.{cell_key, CellsSorted}
-use Rattle.cells_grid.specs.ListingLaws.{few, cell_key_below, cells_sorted_over}
+use Rattle.cells_grid.proofs.ListingLaws.{few, cell_key_below, cells_sorted_over}
 use Rattle.core_cells.specs.Forest.{Grown}
 use Rattle.core_cells.specs.ForestLaws.{grown_over}
 use Rattle.clustering.proofs.Held.{frames}

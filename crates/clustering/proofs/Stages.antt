@@ -18,7 +18,7 @@ use Rattle.counting_tree.specs.Geometry.{Geometry}
 use Rattle.counting_tree.specs.Ready.{geometry_at, Ready}
 use Rattle.cells_grid.specs.Cells.{cells}
 use Rattle.cells_grid.specs.Listing.{cell_key, later_of, CellsSorted}
-use Rattle.cells_grid.specs.ListingLaws.{later_sound}
+use Rattle.cells_grid.proofs.ListingLaws.{later_sound}
 use Rattle.core_cells.specs.Forest.{Grown}
 use Rattle.partitions.specs.Leaders.{Falling, root}
 use Rattle.partitions.specs.LeaderLaws.{Stands, own_stands, flat_stands}

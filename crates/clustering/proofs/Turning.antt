@@ -19,7 +19,7 @@ use Rattle.counting_tree.specs.Ready.{geometry_at, Ready}
 use Rattle.cells_grid.specs.Cells.{members, core, count}
 use Rattle.cells_grid.specs.Arrangement.{cell_at}
 use Rattle.cells_grid.specs.Places.{end_in}
-use Rattle.cells_grid.specs.ArrangementLaws.{cell_size, cell_end_le, cell_places, place_below}
+use Rattle.cells_grid.proofs.ArrangementLaws.{cell_size, cell_end_le, cell_places, place_below}
 use Rattle.core_cells.specs.Forest.{tree_frames, Grown}
 use Rattle.core_cells.specs.Settling.{Apart}
 use Rattle.clustering.specs.Clusters.{touches}

@@ -14,7 +14,7 @@ use Rattle.counting_tree.specs.Geometry.{Geometry}
 use Rattle.counting_tree.specs.Paths.{reaches}
 use Rattle.cells_grid.specs.Cells.{members, first, cells, listed, list, core, core_members, core_cell, core_cells}
 use Rattle.cells_grid.specs.Lawful.{Lawful}
-use Rattle.cells_grid.specs.CellLaws.{in_member, cell_first, first_cell, core_first, core_cell_in, count_path}
+use Rattle.cells_grid.proofs.CellLaws.{in_member, cell_first, first_cell, core_first, core_cell_in, count_path}
 use Rattle.clustering.specs.Clusters.{place, clusters, touched, label_by}
 use Rattle.clustering.specs.Clusters as Clusters
 use Rattle.clustering.specs.ClusterLaws.{in_touched, few_clusters, number_low}

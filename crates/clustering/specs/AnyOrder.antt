@@ -11,7 +11,7 @@ use Rattle.counting_tree.specs.Geometry.{Geometry}
 use Rattle.counting_tree.specs.Paths.{counted_by, any_children}
 use Rattle.cells_grid.specs.Cells.{cells, list, listed, core_members, core_cell, core_cells, node, count}
 use Rattle.cells_grid.specs.Lawful.{Lawful}
-use Rattle.cells_grid.specs.CellLaws.{list_in_lem, in_list, listed_turn, core_cell_in, in_core_cell}
+use Rattle.cells_grid.proofs.CellLaws.{list_in_lem, in_list, listed_turn, core_cell_in, in_core_cell}
 use Rattle.clustering.specs.Clusters.{touches, linked, clusters, place}
 use Rattle.clustering.specs.Sets.{place_same, place_meet}
 use Rattle.clustering.specs.ClusterLaws.{Linked, linked_parts, parts_linked, link_turn, same_cluster}

@@ -20,9 +20,9 @@ use Rattle.counting_tree.proofs.Reach.{near_reaches}
 use Rattle.cells_grid.specs.Cells.{cells, core, core_members, core_cell}
 use Rattle.cells_grid.specs.Lawful.{Lawful}
 use Rattle.cells_grid.specs.Ready.{ready_lawful}
-use Rattle.cells_grid.specs.CellLaws.{core_in_lem, count_path}
+use Rattle.cells_grid.proofs.CellLaws.{core_in_lem, count_path}
 use Rattle.cells_grid.specs.Arrangement.{cell_at}
-use Rattle.cells_grid.specs.ArrangementLaws.{cell_at_below, listed_at}
+use Rattle.cells_grid.proofs.ArrangementLaws.{cell_at_below, listed_at}
 use Rattle.clustering.specs.Clusters.{touches}
 use Rattle.clustering.specs.Uniting.{pair_at, pairs_of}
 use Rattle.clustering.specs.UnitingLaws.{parts_pair, pairs_in}

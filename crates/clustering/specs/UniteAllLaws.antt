@@ -18,10 +18,10 @@ use Rattle.counting_tree.specs.Geometry.{Geometry}
 use Rattle.counting_tree.specs.Ready.{geometry_at, Ready}
 use Rattle.cells_grid.specs.Cells.{cells, listed, core_cell}
 use Rattle.cells_grid.specs.Lawful.{Lawful}
-use Rattle.cells_grid.specs.CellLaws.{listed_turn}
+use Rattle.cells_grid.proofs.CellLaws.{listed_turn}
 use Rattle.cells_grid.specs.Arrangement.{cell_at}
 use Rattle.cells_grid.specs.Listing.{unmarked, later_of}
-use Rattle.cells_grid.specs.ListingLaws.{later_sound, later_complete}
+use Rattle.cells_grid.proofs.ListingLaws.{later_sound, later_complete}
 use Rattle.partitions.specs.Leaders.{shorten_both}
 use Rattle.partitions.specs.LeaderLaws.{Stands, both_stand, united_stands}
 use Rattle.partitions.specs.Trials.{Holding, Outcome, run, merged, by_lowest}

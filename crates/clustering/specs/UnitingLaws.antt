@@ -19,9 +19,9 @@ use Rattle.lists.specs.Chains.{Chain, alone, step, chain_first, chain_last}
 use Rattle.counting_tree.specs.Geometry.{Geometry}
 use Rattle.cells_grid.specs.Cells.{cells, cell_number, listed, core_cell, core_cells}
 use Rattle.cells_grid.specs.Lawful.{Lawful}
-use Rattle.cells_grid.specs.CellLaws.{cell_first, core_cell_in, in_core_cell, listed_turn, number_cell}
+use Rattle.cells_grid.proofs.CellLaws.{cell_first, core_cell_in, in_core_cell, listed_turn, number_cell}
 use Rattle.cells_grid.specs.Arrangement.{cell_at}
-use Rattle.cells_grid.specs.ArrangementLaws.{cell_at_lem, cell_at_one, cell_at_order, cells_by_number, number_below, number_at}
+use Rattle.cells_grid.proofs.ArrangementLaws.{cell_at_lem, cell_at_one, cell_at_order, cells_by_number, number_below, number_at}
 use Rattle.partitions.specs.Trials.{merged, by_lowest}
 use Rattle.partitions.specs.TrialLaws.{run_finishes, run_keeps, Link, Within, joined_one, one_joined}
 use Rattle.clustering.specs.Clusters.{touches, linked, clusters, place}

@@ -25,7 +25,7 @@ use Rattle.cells_grid.specs.Cells.{members}
 use Rattle.cells_grid.specs.Ready.{ready_lawful}
 use Rattle.cells_grid.specs.Arrangement.{cell_at}
 use Rattle.cells_grid.specs.Places.{end_in}
-use Rattle.cells_grid.specs.ArrangementLaws.{cell_size}
+use Rattle.cells_grid.proofs.ArrangementLaws.{cell_size}
 use Rattle.core_cells.specs.declared.spans.Span.{Span}
 use Rattle.core_cells.specs.Forest.{tree_frames, Grown}
 use Rattle.core_cells.specs.Nearest.{CanLook, out_of_reach}

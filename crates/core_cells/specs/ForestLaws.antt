@@ -22,10 +22,10 @@ use Rattle.counting_tree.specs.Tree.{by_box, counted}
 use Rattle.counting_tree.specs.Geometry.{Geometry}
 use Rattle.cells_grid.specs.Cells.{members, cells, core, core_members, core_cell, node}
 use Rattle.cells_grid.specs.Lawful.{Lawful}
-use Rattle.cells_grid.specs.CellLaws.{in_member, in_core}
+use Rattle.cells_grid.proofs.CellLaws.{in_member, in_core}
 use Rattle.cells_grid.specs.Arrangement.{cell_at, start_at, Cored}
 use Rattle.cells_grid.specs.Places.{end_in}
-use Rattle.cells_grid.specs.ArrangementLaws.{start_next, start_le, cells_le, cell_places, core_word, cored_over}
+use Rattle.cells_grid.proofs.ArrangementLaws.{start_next, start_le, cells_le, cell_places, core_word, cored_over}
 use Rattle.tree_structure.specs.Encode.{size, encode, TreeAt, encode_length, size_le}
 use Rattle.tree_structure.specs.Work.{max_levels, max_nodes}
 use Rattle.core_cells.specs.Forest.{core_among, path_limit, tree_frames, is_core, is_large, tree_size, tree_words, nodes_to, forest_to, tree_word, Grown}

@@ -18,7 +18,7 @@ use Rattle.counting_tree.specs.Indexes.{placed_first, centres_length}
 use Rattle.counting_tree.specs.Ready.{geometry_at, Ready}
 use Rattle.cells_grid.specs.Cells.{same_cell, core_members, core_cell, count}
 use Rattle.cells_grid.specs.Lawful.{Lawful}
-use Rattle.cells_grid.specs.CellLaws.{in_core, core_cell_frame, count_path}
+use Rattle.cells_grid.proofs.CellLaws.{in_core, core_cell_frame, count_path}
 use Rattle.cells_grid.specs.Arrangement.{cell_at}
 use Rattle.core_cells.specs.RootBox.{root_box}
 

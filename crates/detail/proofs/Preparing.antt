@@ -17,7 +17,7 @@ use Rattle.counting_tree.specs.Ready.{geometry_at, Ready, at_frames, ready_of}
 use Rattle.cells_grid.specs.Cells.{cells}
 use Rattle.cells_grid.specs.Places.{populated}
 use Rattle.cells_grid.specs.Arrangement.{core_bit, Arranged, Cored}
-use Rattle.cells_grid.specs.ArrangementLaws.{words_count, cored, populated_arranged, populated_within}
+use Rattle.cells_grid.proofs.ArrangementLaws.{words_count, cored, populated_arranged, populated_within}
 use Rattle.cells_grid.specs.Ready.{ready_lawful}
 use Rattle.core_cells.specs.Forest.{tree_word, forest_to}
 use Rattle.core_cells.specs.ForestLaws.{grown}

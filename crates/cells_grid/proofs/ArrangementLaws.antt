@@ -25,7 +25,7 @@ use Rattle.lists.proofs.SortLaws.{start_of_none, start_of_next, start_of_all}
 use Rattle.counting_tree.specs.Geometry.{Geometry}
 use Rattle.cells_grid.specs.Cells.{same_cell, members, first, is_cell, cells, cell_number, listed, list, core}
 use Rattle.cells_grid.specs.Lawful.{Lawful}
-use Rattle.cells_grid.specs.CellLaws.{in_member, members_same, first_in, cell_first, cells_ascending, first_cell, number_cell, number_same}
+use Rattle.cells_grid.proofs.CellLaws.{in_member, members_same, first_in, cell_first, cells_ascending, first_cell, number_cell, number_same}
 use Rattle.cells_grid.specs.Arrangement.{cell_at, arranged, start_at, core_bit, Arranged, Cored}
 use Rattle.cells_grid.specs.Places.{end_in, populated}
 

@@ -31,7 +31,7 @@ use Rattle.blocks.specs.OwnRowLaws.{own_row_low, rows_turn}
 use Rattle.cells_grid.specs.Cells.{cells, listed, core_cell}
 use Rattle.cells_grid.specs.Arrangement.{cell_at}
 use Rattle.cells_grid.specs.Ready.{ready_lawful}
-use Rattle.cells_grid.specs.ArrangementLaws.{cells_le, cell_at_below, listed_at}
+use Rattle.cells_grid.proofs.ArrangementLaws.{cells_le, cell_at_below, listed_at}
 use Rattle.cells_grid.specs.Listing.{reach_of, core_at, unmarked, sorted_count, geo, cell_buckets, cell_key, near_at, near_from, near_in, list_in, list_from, list_of, later_of, CellsSorted, MarkedRuns}
 
 -- words laid over words that are 0, and made 0 again

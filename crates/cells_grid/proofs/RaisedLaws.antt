@@ -16,7 +16,7 @@ use Rattle.lists.proofs.PartLaws.{get_laid, get_above, part_above, column_part, 
 use Rattle.lists.proofs.SortLaws.{sorted_over}
 use Rattle.hyperparams.specs.declared.ValidParams.{ValidParams}
 use Rattle.counting_tree.specs.Ready.{geometry_at, at_frames}
-use Rattle.cells_grid.specs.ArrangementLaws.{arranged_over}
+use Rattle.cells_grid.proofs.ArrangementLaws.{arranged_over}
 use Rattle.cells_grid.specs.Pairs.{raised, Room, Laid}
 
 -- ---- how often a number stands in a list
