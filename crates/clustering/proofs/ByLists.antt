@@ -30,9 +30,9 @@ use Rattle.partitions.specs.LeaderLaws.{Stands, own_stands}
 use Rattle.partitions.specs.Trials.{by_lowest}
 use Rattle.partitions.specs.TrialLaws.{Within}
 use Rattle.clustering.specs.Uniting.{pair_at, one_pair, pairs_with}
-use Rattle.clustering.specs.UnitingLaws.{parts_pair, with_more, with_none, with_within, one_within}
+use Rattle.clustering.proofs.UnitingLaws.{parts_pair, with_more, with_none, with_within, one_within}
 use Rattle.clustering.specs.UniteAll.{link_at, meet_all, by_own_leaders, unlike, pairs_by}
-use Rattle.clustering.specs.UniteAllLaws.{meet_append, all_stand}
+use Rattle.clustering.proofs.UniteAllLaws.{meet_append, all_stand}
 use Rattle.clustering.specs.Runs.{RunsIn}
 use Rattle.clustering.specs.RunsLaws.{runs_over, marked_runs}
 use Rattle.clustering.proofs.Held.{frames, few_cells, cell_count_lem, is_cell_lem, tree_held}

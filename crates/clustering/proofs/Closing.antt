@@ -28,11 +28,11 @@ use Rattle.partitions.specs.Leaders.{Falling, root, shorten_both, united}
 use Rattle.partitions.specs.TrialLaws.{Within}
 use Rattle.clustering.specs.Clusters.{touches}
 use Rattle.clustering.specs.Uniting.{pair_at, one_pair, touch_at}
-use Rattle.clustering.specs.UnitingLaws.{if_within}
+use Rattle.clustering.proofs.UnitingLaws.{if_within}
 use Rattle.clustering.specs.UniteAll.{link_at, meet_all, by_own_leaders}
-use Rattle.clustering.specs.UniteAllLaws.{meet_append, touch_links}
+use Rattle.clustering.proofs.UniteAllLaws.{meet_append, touch_links}
 use Rattle.clustering.specs.Close.{back, later_at, earlier_at, sorted_cells, close_at, close_pair, close_turns, close_pairs}
-use Rattle.clustering.specs.CloseLaws.{close_pair_lem, close_touches}
+use Rattle.clustering.proofs.CloseLaws.{close_pair_lem, close_touches}
 use Rattle.clustering.proofs.Held.{few_cells, cell_count_lem, is_cell_lem, core_held, first_held, first_low}
 use Rattle.clustering.proofs.ByLists.{left, Leading, leading_start, leaders_now, leading_on, pairs_stand}
 use Rattle.clustering.proofs.Trying.{CanTry, p, P, put, Q}

@@ -23,7 +23,7 @@ use Rattle.cells_grid.specs.Arrangement.{cell_at}
 use Rattle.cells_grid.proofs.ArrangementLaws.{cell_at_lem, list_by_number}
 use Rattle.core_cells.specs.Forest.{Grown}
 use Rattle.clustering.specs.Clusters.{place, clusters, touched, label_by, kind_of}
-use Rattle.clustering.specs.ClusterLaws.{number_low, core_label, border_label_lem, noise_label}
+use Rattle.clustering.proofs.ClusterLaws.{number_low, core_label, border_label_lem, noise_label}
 use Rattle.clustering.specs.Numbering.{cluster_word, borders_at}
 use Rattle.clustering.proofs.Held.{counted_core, lawful, frames, cell_count_lem, own_held, own_below, core_held}
 

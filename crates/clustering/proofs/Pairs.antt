@@ -25,7 +25,7 @@ use Rattle.partitions.specs.Trials.{Holding, Outcome, run, by_leaders, by_lowest
 use Rattle.partitions.specs.TrialLaws.{Alike, alike}
 use Rattle.clustering.specs.declared.uniting.Progress.{Progress}
 use Rattle.clustering.specs.Uniting.{pair_at, one_pair, pairs_with, pairs_of, touch_at, stopped, progress_of}
-use Rattle.clustering.specs.UnitingLaws.{with_more, one_within}
+use Rattle.clustering.proofs.UnitingLaws.{with_more, one_within}
 use Rattle.clustering.proofs.Held.{frames, few_cells, cell_count_lem}
 
 -- ---- the pairs from c and d on

@@ -27,11 +27,11 @@ use Rattle.partitions.specs.Trials.{Outcome, run, by_lowest, by_leaders}
 use Rattle.partitions.specs.TrialLaws.{Within, Alike, alike}
 use Rattle.clustering.specs.declared.uniting.Progress.{Progress}
 use Rattle.clustering.specs.Uniting.{pairs_of, touch_at, progress_by, progress_of, uniting, lowest_at}
-use Rattle.clustering.specs.UnitingLaws.{in_pairs}
+use Rattle.clustering.proofs.UnitingLaws.{in_pairs}
 use Rattle.clustering.specs.UniteAll.{link_at, meet_all, by_own_leaders, pairs_by}
-use Rattle.clustering.specs.UniteAllLaws.{all_stand, lists_stand, later_lists}
+use Rattle.clustering.proofs.UniteAllLaws.{all_stand, lists_stand, later_lists}
 use Rattle.clustering.specs.Close.{sorted_cells, close_pairs}
-use Rattle.clustering.specs.CloseLaws.{close_in}
+use Rattle.clustering.proofs.CloseLaws.{close_in}
 use Rattle.clustering.proofs.Held.{lawful, frames, few_cells, cell_count_lem}
 use Rattle.clustering.proofs.Lent.{lent, lent_length, back}
 use Rattle.clustering.proofs.Closing.{sorted_below}

@@ -25,7 +25,7 @@ use Rattle.partitions.specs.LeaderLaws.{Stands, own_stands, flat_stands}
 use Rattle.partitions.specs.Trials.{by_lowest}
 use Rattle.partitions.specs.TrialLaws.{Within}
 use Rattle.clustering.specs.UniteAll.{link_at, meet_all, by_own_leaders, unlike, pairs_by}
-use Rattle.clustering.specs.UniteAllLaws.{meet_append, by_append, by_within, unlike_stand}
+use Rattle.clustering.proofs.UniteAllLaws.{meet_append, by_append, by_within, unlike_stand}
 use Rattle.clustering.specs.Runs.{runs_of, RunsIn}
 use Rattle.clustering.specs.RunsLaws.{runs_length, marks_are}
 use Rattle.clustering.proofs.Held.{few_cells, cell_count_lem, is_cell_lem}

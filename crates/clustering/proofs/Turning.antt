@@ -25,7 +25,7 @@ use Rattle.core_cells.specs.Settling.{Apart}
 use Rattle.clustering.specs.Clusters.{touches}
 use Rattle.clustering.specs.Uniting.{touch_at}
 use Rattle.clustering.specs.UniteAll.{link_at}
-use Rattle.clustering.specs.UniteAllLaws.{touch_links}
+use Rattle.clustering.proofs.UniteAllLaws.{touch_links}
 use Rattle.clustering.specs.Turns.{size_at, asked_at, turn_at}
 use Rattle.clustering.specs.TurnsLaws.{any_stretches, turns_link}
 use Rattle.clustering.proofs.Held.{lawful, frames, core_held}

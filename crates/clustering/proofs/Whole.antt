@@ -23,7 +23,7 @@ use Rattle.cells_grid.specs.Listing.{cell_key, CellsSorted}
 use Rattle.core_cells.specs.Forest.{Grown}
 use Rattle.clustering.specs.Clusters.{place, clusters, label_by, kind_of}
 use Rattle.clustering.specs.Uniting.{uniting, lowest_at}
-use Rattle.clustering.specs.UnitingLaws.{uniting_finishes, lowest_led, cluster_total, cluster_word_lem}
+use Rattle.clustering.proofs.UnitingLaws.{uniting_finishes, lowest_led, cluster_total, cluster_word_lem}
 use Rattle.clustering.specs.Numbering.{core_in, lowest_in, Led, leads, number_by, cluster_word}
 use Rattle.clustering.specs.NumberingLaws.{led_same, leads_same, number_same}
 use Rattle.clustering.proofs.Held.{lawful, cell_count_lem, few_cells, tree_held}

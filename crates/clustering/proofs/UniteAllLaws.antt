@@ -26,9 +26,9 @@ use Rattle.partitions.specs.Leaders.{shorten_both}
 use Rattle.partitions.specs.LeaderLaws.{Stands, both_stand, united_stands}
 use Rattle.partitions.specs.Trials.{Holding, Outcome, run, merged, by_lowest}
 use Rattle.partitions.specs.TrialLaws.{run_finishes, run_keeps, Link, Within, joined_one, one_joined}
-use Rattle.clustering.specs.LeaderPartition.{Lowest, unite_lowest}
+use Rattle.clustering.proofs.LeaderPartition.{Lowest, unite_lowest}
 use Rattle.clustering.specs.Uniting.{pair_at, pairs_with, pairs_of, touch_at, uniting, lowest_at}
-use Rattle.clustering.specs.UnitingLaws.{in_pairs, pairs_in, pair_parts, parts_pair, with_within, pairs_few}
+use Rattle.clustering.proofs.UnitingLaws.{in_pairs, pairs_in, pair_parts, parts_pair, with_within, pairs_few}
 use Rattle.clustering.specs.UniteAll.{link_at, meet, meet_all, by_own_leaders, unlike, pairs_by}
 
 -- ---- however sets are held

@@ -25,9 +25,9 @@ use Rattle.cells_grid.proofs.ArrangementLaws.{cell_at_lem, cell_at_one, cell_at_
 use Rattle.partitions.specs.Trials.{merged, by_lowest}
 use Rattle.partitions.specs.TrialLaws.{run_finishes, run_keeps, Link, Within, joined_one, one_joined}
 use Rattle.clustering.specs.Clusters.{touches, linked, clusters, place}
-use Rattle.clustering.specs.ClusterLaws.{Linked, linked_parts, parts_linked}
-use Rattle.clustering.specs.Leaders.{Leads, number_by_leaders, cluster_count_lem}
-use Rattle.clustering.specs.LeaderPartition.{Lowest, unite_lowest, lower_either, equal}
+use Rattle.clustering.proofs.ClusterLaws.{Linked, linked_parts, parts_linked}
+use Rattle.clustering.proofs.Leaders.{Leads, number_by_leaders, cluster_count_lem}
+use Rattle.clustering.proofs.LeaderPartition.{Lowest, unite_lowest, lower_either, equal}
 use Rattle.clustering.specs.Uniting.{pair_at, one_pair, pairs_with, pairs_of, touch_at, uniting, lowest_at}
 use Rattle.clustering.specs.Numbering.{Led, leads, number_by, cluster_word}
 

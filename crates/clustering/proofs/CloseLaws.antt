@@ -25,7 +25,7 @@ use Rattle.cells_grid.specs.Arrangement.{cell_at}
 use Rattle.cells_grid.proofs.ArrangementLaws.{cell_at_below, listed_at}
 use Rattle.clustering.specs.Clusters.{touches}
 use Rattle.clustering.specs.Uniting.{pair_at, pairs_of}
-use Rattle.clustering.specs.UnitingLaws.{parts_pair, pairs_in}
+use Rattle.clustering.proofs.UnitingLaws.{parts_pair, pairs_in}
 use Rattle.clustering.specs.Close.{back, later_at, earlier_at, close_at, close_pair, close_turns, close_pairs}
 
 module _ {ps : List ℤ} {v : ValidParams} {n : ℕ} (r : Ready ps v n) where
