@@ -16,7 +16,7 @@ use Rattle.cells_grid.specs.Cells.{core}
 use Rattle.clustering.specs.Clusters.{clusters, place, label_by, kind_of}
 use Rattle.appx_dbscan.specs.Transform.{transform_of}
 use Rattle.appx_dbscan.specs.Filled.{filled}
-use Rattle.lists.specs.Within.{Within, within_self, within_join, within_over, within_cleared, made_clear}
+use Rattle.lists.proofs.Within.{Within, within_self, within_join, within_over, within_cleared, made_clear}
 use Rattle.appx_dbscan.proofs.Phases.{filled_within, filled_labels, filled_kinds, filled_low, filled_cores}
 
 -- w are the words lent, w₁ the same with the scratch words cleared

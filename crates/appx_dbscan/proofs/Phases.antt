@@ -10,8 +10,8 @@ use lib.ListN.{length, get_or, length-append}
 use Rattle.lists.specs.Lists.{numbers, how_many, Below}
 use Rattle.lists.specs.Words.{over, part, column, Clear}
 use Rattle.lists.specs.ListLaws.{length_numbers, in_map, in_numbers, keep_same}
-use Rattle.lists.specs.PartLaws.{over_cover, part_under, part_same, clear_within}
-use Rattle.lists.specs.WordLaws.{over_length, over_apart, over_next}
+use Rattle.lists.proofs.PartLaws.{over_cover, part_under, part_same, clear_within}
+use Rattle.lists.proofs.WordLaws.{over_length, over_apart, over_next}
 use Rattle.hyperparams.specs.Params.{work_words}
 use Rattle.hyperparams.specs.declared.ValidParams.{ValidParams}
 use Rattle.counting_tree.specs.Geometry.{Geometry}
@@ -20,8 +20,8 @@ use Rattle.cells_grid.specs.Cells.{cells, core}
 use Rattle.cells_grid.specs.Lawful.{Lawful}
 use Rattle.cells_grid.specs.Ready.{ready_lawful}
 use Rattle.cells_grid.specs.Arrangement.{core_bit, Arranged, Cored}
-use Rattle.cells_grid.specs.ArrangementLaws as ArrangementLaws
-use Rattle.cells_grid.specs.ArrangementLaws.{cells_le, cored, core_word, populated_arranged}
+use Rattle.cells_grid.proofs.ArrangementLaws as ArrangementLaws
+use Rattle.cells_grid.proofs.ArrangementLaws.{cells_le, cored, core_word, populated_arranged}
 use Rattle.cells_grid.specs.Places.{populated}
 use Rattle.core_cells.specs.Forest.{tree_word, forest_to, Grown}
 use Rattle.core_cells.specs.ForestLaws.{grown_over}
@@ -30,7 +30,7 @@ use Rattle.clustering.specs.Uniting.{lowest_at}
 use Rattle.clustering.specs.Numbering.{cluster_word}
 use Rattle.appx_dbscan.specs.Filled.{treed, filled}
 use Rattle.appx_dbscan.proofs.Trees.{part_short, trees_within, trees_grown, grew_clear, grew_grown}
-use Rattle.lists.specs.Within.{Within, within_join, within_over, within_more, within_clear}
+use Rattle.lists.proofs.Within.{Within, within_join, within_over, within_more, within_clear}
 
 -- a kind is 0, 1 or 2
 kind_low : (g : Geometry) (i : ℕ) → kind_of g i < 3

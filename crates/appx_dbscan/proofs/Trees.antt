@@ -7,16 +7,16 @@ use lib.IntN.{ℤ}
 use lib.ListN.{length, drop, length-take}
 use Rattle.lists.specs.Words.{over, part, column, Clear}
 use Rattle.lists.specs.ListLaws.{length_numbers}
-use Rattle.lists.specs.PartLaws.{over_cover, part_under, part_above, clear_before, clear_after, clear_within}
-use Rattle.lists.specs.WordLaws.{over_length, over_apart}
-use Rattle.lists.specs.Within.{Within, within_self, within_over}
+use Rattle.lists.proofs.PartLaws.{over_cover, part_under, part_above, clear_before, clear_after, clear_within}
+use Rattle.lists.proofs.WordLaws.{over_length, over_apart}
+use Rattle.lists.proofs.Within.{Within, within_self, within_over}
 use Rattle.hyperparams.specs.Params.{work_words}
 use Rattle.hyperparams.specs.declared.ValidParams.{ValidParams}
 use Rattle.counting_tree.specs.Geometry.{Geometry}
 use Rattle.counting_tree.specs.Ready.{geometry_at, Ready, at_frames, at_levels}
 use Rattle.cells_grid.specs.Ready.{ready_lawful}
 use Rattle.cells_grid.specs.Arrangement.{Cored}
-use Rattle.cells_grid.specs.ArrangementLaws.{cells_le}
+use Rattle.cells_grid.proofs.ArrangementLaws.{cells_le}
 use Rattle.core_cells.specs.Forest.{tree_word, forest_to, Grown}
 use Rattle.core_cells.specs.ForestLaws.{forest_length, nodes_fewer, nodes_fit, grown, grown_over}
 

@@ -20,7 +20,7 @@ use Rattle.counting_tree.specs.Geometry.{Geometry, geometry_of, short, frame, N,
 use Rattle.counting_tree.specs.Domain.{Domain}
 use Rattle.counting_tree.specs.Sound.{cell_near, within_whole}
 use Rattle.cells_grid.specs.Cells.{same_cell, members, first, listed, dense, neighbour, core}
-use Rattle.cells_grid.specs.CellLaws.{first_same, first_in, first_lowest}
+use Rattle.cells_grid.proofs.CellLaws.{first_same, first_in, first_lowest}
 use Rattle.appx_dbscan.specs.Transform.{transform_of}
 use Rattle.appx_dbscan.specs.Small.{params, minus, valid_j, frames_j}
 use Rattle.cells_grid.specs.Ready.{lawful}

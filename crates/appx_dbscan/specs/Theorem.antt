@@ -10,11 +10,11 @@ use Rattle.lists.specs.Words.{over}
 use Rattle.lists.specs.Chains.{Chain, alone, step, chain_first, chain_last}
 use Rattle.counting_tree.specs.Geometry.{Geometry}
 use Rattle.counting_tree.specs.Paths.{reaches}
-use Rattle.counting_tree.specs.Reach.{far_path, near_path}
+use Rattle.counting_tree.proofs.Reach.{far_path, near_path}
 use Rattle.cells_grid.specs.Cells.{same_cell, first, listed, core, core_members, core_cells, count}
-use Rattle.cells_grid.specs.CellLaws.{cell_first, core_in_lem, in_core, in_core_cell, core_cell_frame, first_same, first_in, first_cell, core_first, count_same, listed_same, listed_turn, count_path}
+use Rattle.cells_grid.proofs.CellLaws.{cell_first, core_in_lem, in_core, in_core_cell, core_cell_frame, first_same, first_in, first_cell, core_first, count_same, listed_same, listed_turn, count_path}
 use Rattle.clustering.specs.Clusters.{place, none, touches, linked, clusters, touched, label_by, kind_of}
-use Rattle.clustering.specs.ClusterLaws.{Linked, linked_parts, parts_linked, touched_in, in_touched, core_label, border_label_lem, noise_label, few_clusters, number_low, each_number, same_cluster}
+use Rattle.clustering.proofs.ClusterLaws.{Linked, linked_parts, parts_linked, touched_in, in_touched, core_label, border_label_lem, noise_label, few_clusters, number_low, each_number, same_cluster}
 use Rattle.appx_dbscan.specs.Transform.{transform_of}
 use Rattle.appx_dbscan.specs.Promise.{CoreFrame, Border, Noise, NearStep, one_cell, into_listed, Reached, StoppedPromise, PromiseOf}
 use Rattle.appx_dbscan.specs.Sound.{Sound}

@@ -16,7 +16,7 @@ use mir.Facts.{to_z-of_z}
 use borrow.Author.Tests.{le-leb, lt-leb, eq-eqb}
 use Rattle.lists.specs.Lists.{Below}
 use Rattle.lists.specs.Words.{over}
-use Rattle.lists.specs.WordLaws.{over_length, four_over}
+use Rattle.lists.proofs.WordLaws.{over_length, four_over}
 use Rattle.lists.specs.ListLaws.{true_T, both_ways, not_turn, at_map}
 use Rattle.hyperparams.specs.Params.{max_frames}
 use Rattle.hyperparams.specs.declared.ValidParams.{ValidParams}

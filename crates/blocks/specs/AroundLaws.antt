@@ -6,7 +6,7 @@ use Rattle.lists.specs.Lists.{Below}
 use Rattle.lists.specs.Words.{over, column}
 use Rattle.lists.specs.ListLaws.{at_numbers}
 use Rattle.lists.specs.OrderLaws.{below_at}
-use Rattle.lists.specs.WordLaws.{over_length}
+use Rattle.lists.proofs.WordLaws.{over_length}
 use Rattle.hyperparams.specs.declared.ValidParams.{ValidParams}
 use Rattle.counting_tree.specs.Frames.{Frame}
 use Rattle.counting_tree.specs.FramesIn.{frame_length}

@@ -9,10 +9,10 @@ use Rattle.std.proofs.Math.ListN.{length, length-replicate}
 use Rattle.lists.specs.Lists.{from, concat}
 use Rattle.lists.specs.Words.{over, part, column, Clear, Apart}
 use Rattle.lists.specs.ListLaws.{length_numbers, at_numbers}
-use Rattle.lists.specs.WordLaws.{over_length, over_apart, over_swap, over_again}
-use Rattle.lists.specs.PartLaws.{over_cover, part_apart, part_same, get_laid, get_apart, clear_over}
+use Rattle.lists.proofs.WordLaws.{over_length, over_apart, over_swap, over_again}
+use Rattle.lists.proofs.PartLaws.{over_cover, part_apart, part_same, get_laid, get_apart, clear_over}
 use Rattle.lists.specs.Sorting.{numbered, start_of, places_of, key_in, begin_in, Sortable, Sorted}
-use Rattle.lists.specs.SortLaws.{start_of_none, start_of_all, start_le, start_mono, places_of_length, places_of_same, ends_same, begin_at, between}
+use Rattle.lists.proofs.SortLaws.{start_of_none, start_of_all, start_le, start_mono, places_of_length, places_of_same, ends_same, begin_at, between}
 use Rattle.blocks.specs.declared.Stretch.{Stretch}
 use Rattle.blocks.specs.Blocks.{stretch_in, sorted_by}
 

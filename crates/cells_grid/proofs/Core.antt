@@ -14,9 +14,9 @@ use borrow.Author.Tests.{le-leb, lt-leb}
 use Rattle.lists.specs.Lists.{numbers, any, how_many}
 use Rattle.lists.specs.ListLaws.{true_T, T_true, T_or_not, not_turn, any_in, any_none, map_same, numbers_in, in_numbers, at_numbers, length_numbers}
 use Rattle.lists.specs.Words.{over, column, Clear, Apart}
-use Rattle.lists.specs.WordLaws.{over_length, over_apart, over_again}
-use Rattle.lists.specs.PartLaws.{column_replicate, get_laid, get_above, clear_over, clear_before, clear_after, clear_within}
-use Rattle.lists.specs.LoopLaws.{Fill, fill_start, fill_length, fill_end}
+use Rattle.lists.proofs.WordLaws.{over_length, over_apart, over_again}
+use Rattle.lists.proofs.PartLaws.{column_replicate, get_laid, get_above, clear_over, clear_before, clear_after, clear_within}
+use Rattle.lists.proofs.LoopLaws.{Fill, fill_start, fill_length, fill_end}
 use Rattle.hyperparams.specs.declared.ValidParams.{ValidParams}
 use Rattle.counting_tree.specs.Domain.{Counts}
 use Rattle.counting_tree.specs.Geometry.{Geometry}
@@ -26,15 +26,15 @@ use Rattle.cells_grid.specs.Lawful.{Lawful}
 use Rattle.cells_grid.specs.Arrangement.{cell_at, core_bit, Arranged}
 use Rattle.cells_grid.specs.Places.{end_in}
 use Rattle.cells_grid.specs.Ready.{ready_lawful}
-use Rattle.cells_grid.specs.ArrangementLaws.{number_below, members_number, words_count, words_room, number_word, cell_size, arranged_over}
+use Rattle.cells_grid.proofs.ArrangementLaws.{number_below, members_number, words_count, words_room, number_word, cell_size, arranged_over}
 use Rattle.lists.specs.Sorting.{start_of, places_of, key_in, Sortable, Sorted}
 use Rattle.blocks.specs.Blocks.{width, bucket_of, frame_at, key_for, sorted_by}
 use Rattle.blocks.specs.RowLaws.{key_below}
 use Rattle.blocks.specs.SortedLaws.{places_long, sorted_length, sorted_after, sorted_under, sorted_cleared, can_sort, keys_cleared}
 use Rattle.cells_grid.specs.Crowding.{itself, every, frame_key}
 use Rattle.cells_grid.specs.Pairs.{Laid, others}
-use Rattle.cells_grid.specs.RaisedLaws.{laid_over}
-use Rattle.cells_grid.specs.PairLaws.{others_more}
+use Rattle.cells_grid.proofs.RaisedLaws.{laid_over}
+use Rattle.cells_grid.proofs.PairLaws.{others_more}
 
 -- the count of the cells is that of the definition
 pub all_cells : {g : Geometry} {k : ℕ} {w : List ℕ} → Arranged g k w → Arranged g (length (cells g)) w

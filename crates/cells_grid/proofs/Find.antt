@@ -18,10 +18,10 @@ use Rattle.lists.specs.ListLaws.{both_ways, in_keep}
 use Rattle.lists.specs.CountLaws.{keep_keep}
 use Rattle.lists.specs.OrderLaws.{kept_snoc, many_snoc, kept_le, keep_low, kept_split, many_less}
 use Rattle.lists.specs.Words.{over}
-use Rattle.lists.specs.WordLaws.{over_length, over_nil, set_over}
-use Rattle.lists.specs.PartLaws.{set_under}
+use Rattle.lists.proofs.WordLaws.{over_length, over_nil, set_over}
+use Rattle.lists.proofs.PartLaws.{set_under}
 use Rattle.lists.specs.Buckets.{last_with, hash_of, bucket, in_bucket, Bucketed}
-use Rattle.lists.specs.BucketLaws.{Walk, last_le, last_more, last_hit, last_gap, last_within, walk_start, walk_next, bucket_next, bucketed_same}
+use Rattle.lists.proofs.BucketLaws.{Walk, last_le, last_more, last_hit, last_gap, last_within, walk_start, walk_next, bucket_next, bucketed_same}
 use Rattle.hyperparams.specs.Params.{max_frames}
 use Rattle.hyperparams.specs.declared.ValidParams.{ValidParams}
 use Rattle.counting_tree.specs.Frames.{frames_in}
@@ -32,14 +32,14 @@ use Rattle.counting_tree.specs.Domain.{Counts}
 use Rattle.counting_tree.specs.Ready.{geometry_at, Ready, at_frames}
 use Rattle.cells_grid.specs.Cells.{same_cell, first, is_cell, cells, cell_number}
 use Rattle.cells_grid.specs.Lawful.{Lawful}
-use Rattle.cells_grid.specs.CellLaws.{first_lowest, first_in, first_cell, number_cell, number_same}
+use Rattle.cells_grid.proofs.CellLaws.{first_lowest, first_in, first_cell, number_cell, number_same}
 use Rattle.cells_grid.specs.Arrangement.{cell_at}
 use Rattle.blocks.specs.Blocks.{same_nats}
 use Rattle.blocks.specs.BlockLaws.{same_nats_lem}
 use Rattle.cells_grid.specs.Hashing.{two_words, numbers_at, less_one, has_indexes, bucket_in, cell_in, natural, naturals, frame_bucket, chained, inserted, Begun}
 use Rattle.cells_grid.specs.HashingLaws.{frame_bucket_below, naturals_length, same_naturals, two_words_length}
 use Rattle.cells_grid.specs.Ready.{ready_lawful}
-use Rattle.cells_grid.specs.ArrangementLaws.{cell_at_below, number_at}
+use Rattle.cells_grid.proofs.ArrangementLaws.{cell_at_below, number_at}
 
 module _ (g : Geometry) where
   -- the cells that begin before frame i are the first ones

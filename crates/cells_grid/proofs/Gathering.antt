@@ -8,7 +8,7 @@ use native.Mathlib.Omega.{arith}
 use lib.IntN.{ℤ}
 use lib.ListN.{length, get_or, length-append}
 use Rattle.lists.specs.Words.{over}
-use Rattle.lists.specs.WordLaws.{over_length, over_nil, over_next}
+use Rattle.lists.proofs.WordLaws.{over_length, over_nil, over_next}
 use Rattle.hyperparams.specs.declared.ValidParams.{ValidParams}
 use Rattle.counting_tree.specs.Geometry.{Geometry}
 use Rattle.counting_tree.specs.Ready.{geometry_at, Ready, at_frames}
@@ -16,9 +16,9 @@ use Rattle.blocks.specs.Blocks.{own_row}
 use Rattle.cells_grid.specs.Cells.{cells}
 use Rattle.cells_grid.specs.Arrangement.{cell_at, Arranged}
 use Rattle.cells_grid.specs.Ready.{ready_lawful}
-use Rattle.cells_grid.specs.ArrangementLaws.{first_word, first_word_low, arranged_over}
+use Rattle.cells_grid.proofs.ArrangementLaws.{first_word, first_word_low, arranged_over}
 use Rattle.cells_grid.specs.Listing.{reach_of, unmarked, list_in, list_from, list_of, later_of, CellsSorted, MarkedRuns}
-use Rattle.cells_grid.specs.ListingLaws.{unmarked_all, unmarked_le, unmarked_append, unmarked_over, few, in_below, list_length, list_rows, later_length, cells_sorted_over, marked_runs_over}
+use Rattle.cells_grid.proofs.ListingLaws.{unmarked_all, unmarked_le, unmarked_append, unmarked_over, few, in_below, list_length, list_rows, later_length, cells_sorted_over, marked_runs_over}
 
 -- where no word is the mark, no cell is left out
 pub none_marked : (w : List ℕ) (a m b : ℕ) (ds : List ℕ) → ((d : ℕ) → get_or w (a + d) 0 ≡ m → ⊥) → {x : ℕ} {u : List ℕ} → (x ≡ length (unmarked w a m ds)) × (u ≡ over w b (unmarked w a m ds)) → (x ≡ length ds) × (u ≡ over w b ds)

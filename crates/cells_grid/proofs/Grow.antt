@@ -12,11 +12,11 @@ use Rattle.lists.specs.Words.{over, part, column, Clear}
 use Rattle.lists.specs.Buckets.{Bucketed}
 use Rattle.lists.specs.ListLaws.{map_same, in_map, in_numbers, length_numbers}
 use Rattle.lists.specs.OrderLaws.{kept_snoc, many_snoc, kept_le}
-use Rattle.lists.specs.WordLaws.{over_length, over_nil, over_again, over_apart, over_grow, set_over, set_laid}
-use Rattle.lists.specs.PartLaws.{part_under, part_same, column_snoc, get_under, get_above, holds_at_0, clear_over, clear_before, clear_after, clear_within}
+use Rattle.lists.proofs.WordLaws.{over_length, over_nil, over_again, over_apart, over_grow, set_over, set_laid}
+use Rattle.lists.proofs.PartLaws.{part_under, part_same, column_snoc, get_under, get_above, holds_at_0, clear_over, clear_before, clear_after, clear_within}
 use Rattle.lists.specs.Sorting.{start_of, places_of}
-use Rattle.lists.specs.SortLaws.{start_of_same, places_of_same}
-use Rattle.lists.specs.BucketLaws.{bucketed_none, bucketed_over, bucketed_push}
+use Rattle.lists.proofs.SortLaws.{start_of_same, places_of_same}
+use Rattle.lists.proofs.BucketLaws.{bucketed_none, bucketed_over, bucketed_push}
 use Rattle.hyperparams.specs.Params.{max_frames}
 use Rattle.hyperparams.specs.declared.ValidParams.{ValidParams}
 use Rattle.counting_tree.specs.Geometry.{Geometry}
@@ -28,7 +28,7 @@ use Rattle.cells_grid.specs.Arrangement.{arranged, start_at}
 use Rattle.cells_grid.specs.Hashing.{frame_bucket, cell_bucket, chained}
 use Rattle.cells_grid.specs.HashingLaws.{frame_bucket_below}
 use Rattle.cells_grid.specs.Ready.{ready_lawful}
-use Rattle.cells_grid.specs.ArrangementLaws.{cells_le, number_below, start_by_number, arranged_by_number}
+use Rattle.cells_grid.proofs.ArrangementLaws.{cells_le, number_below, start_by_number, arranged_by_number}
 use Rattle.cells_grid.proofs.Find.{new_cell_at}
 
 -- ---- frames are inserted: those before i, in k cells; `scratch` is what stands in the words of the buckets

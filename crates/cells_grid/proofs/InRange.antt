@@ -6,7 +6,7 @@ use native.Mathlib.Omega.{arith}
 use lib.IntN.{ℤ}
 use lib.ListN.{length, get_or}
 use Rattle.lists.specs.Lists.{how_many}
-use Rattle.lists.specs.LoopLaws.{Scan, scan_start}
+use Rattle.lists.proofs.LoopLaws.{Scan, scan_start}
 use Rattle.hyperparams.specs.declared.ValidParams.{ValidParams}
 use Rattle.counting_tree.specs.Geometry.{Geometry}
 use Rattle.counting_tree.specs.Ready.{geometry_at, Ready, at_frames}
@@ -15,7 +15,7 @@ use Rattle.cells_grid.specs.Lawful.{Lawful}
 use Rattle.cells_grid.specs.Arrangement.{cell_at, Arranged}
 use Rattle.cells_grid.specs.Places.{end_in}
 use Rattle.cells_grid.specs.Ready.{ready_lawful}
-use Rattle.cells_grid.specs.ArrangementLaws.{words_count, words_room, cell_size, cell_end_le, cell_places, place_below}
+use Rattle.cells_grid.proofs.ArrangementLaws.{words_count, words_room, cell_size, cell_end_le, cell_places, place_below}
 
 module _ {ps : List ℤ} {v : ValidParams} {n k i c : ℕ} {w : List ℕ} (p : Ready ps v n × Arranged (geometry_at v n ps) k w × (i < n) × (c < k)) where
   abbrev g : Geometry

@@ -11,3 +11,8 @@ pub mod Sorting
 pub mod Gathering
 pub mod Neighbours
 pub mod PairLoops
+pub mod CellLaws
+pub mod ArrangementLaws
+pub mod ListingLaws
+pub mod PairLaws
+pub mod RaisedLaws

@@ -12,7 +12,7 @@ use Rattle.cells_grid.specs.Cells.{cells, listed}
 use Rattle.cells_grid.specs.Lawful.{Lawful}
 use Rattle.cells_grid.specs.Arrangement.{cell_at, Arranged}
 use Rattle.cells_grid.specs.Ready.{ready_lawful}
-use Rattle.cells_grid.specs.ArrangementLaws.{cell_at_below, listed_at, words_count, words_room, first_word}
+use Rattle.cells_grid.proofs.ArrangementLaws.{cell_at_below, listed_at, words_count, words_room, first_word}
 
 module _ {ps : List ℤ} {v : ValidParams} {n c d : ℕ} {w : List ℕ} (p : (Ready ps v n × Arranged (geometry_at v n ps) (length (cells (geometry_at v n ps))) w)
     × ((c < length (cells (geometry_at v n ps))) × (d < length (cells (geometry_at v n ps))))) where

@@ -15,8 +15,8 @@ use Rattle.lists.specs.ListLaws.{T_false, not_turn, and_right, in_keep, in_appen
 use Rattle.lists.specs.OrderLaws.{kept_le, total_round}
 use Rattle.lists.specs.CountLaws.{keep_append, how_many_cons, length_concat}
 use Rattle.lists.specs.PermLaws.{perm_length}
-use Rattle.lists.specs.LoopLaws.{Sum, sum_start, sum_stop, sum_more, sum_end}
-use Rattle.lists.specs.PartLaws.{part_first, part_below}
+use Rattle.lists.proofs.LoopLaws.{Sum, sum_start, sum_stop, sum_more, sum_end}
+use Rattle.lists.proofs.PartLaws.{part_first, part_below}
 use Rattle.hyperparams.specs.declared.ValidParams.{ValidParams}
 use Rattle.counting_tree.specs.Frames.{frames_in, squared}
 use Rattle.counting_tree.specs.Geometry.{Geometry, geometry_of}
@@ -30,9 +30,9 @@ use Rattle.blocks.specs.RowLaws.{around_low, found_order}
 use Rattle.blocks.specs.SortedLaws.{Stretched, stretch_holds}
 use Rattle.cells_grid.specs.Cells.{first, cells, cell_number, listed, neighbour}
 use Rattle.cells_grid.specs.Lawful.{Lawful}
-use Rattle.cells_grid.specs.CellLaws.{first_in, number_cell}
+use Rattle.cells_grid.proofs.CellLaws.{first_in, number_cell}
 use Rattle.cells_grid.specs.Arrangement.{Arranged}
-use Rattle.cells_grid.specs.ArrangementLaws.{number_below, words_count, words_room, number_word, first_word}
+use Rattle.cells_grid.proofs.ArrangementLaws.{number_below, words_count, words_room, number_word, first_word}
 use Rattle.cells_grid.specs.Ready.{ready_lawful}
 use Rattle.cells_grid.specs.Crowding.{itself, every, frame_key, neighbour_in, neighbours_in}
 

@@ -14,9 +14,9 @@ use Rattle.lists.specs.Words.{over, part, column, rest, Clear}
 use Rattle.lists.specs.Sorting.{begin_in, start_of, Sorted}
 use Rattle.lists.specs.CountLaws.{keep_le, total_append}
 use Rattle.lists.specs.OrderLaws.{numbers_snoc}
-use Rattle.lists.specs.LoopLaws.{rest_start, rest_step, rest_end}
-use Rattle.lists.specs.PartLaws.{part_length, part_step, part_below, holds_at}
-use Rattle.lists.specs.SortLaws.{start_le, start_mono, begin_at, begin_first, begin_later}
+use Rattle.lists.proofs.LoopLaws.{rest_start, rest_step, rest_end}
+use Rattle.lists.proofs.PartLaws.{part_length, part_step, part_below, holds_at}
+use Rattle.lists.proofs.SortLaws.{start_le, start_mono, begin_at, begin_first, begin_later}
 use Rattle.hyperparams.specs.declared.ValidParams.{ValidParams}
 use Rattle.counting_tree.specs.Domain.{Counts}
 use Rattle.counting_tree.specs.Ready.{geometry_at}
@@ -27,8 +27,8 @@ use Rattle.blocks.specs.OwnRowLaws.{own_which, rows_own}
 use Rattle.cells_grid.specs.Cells.{first, neighbour}
 use Rattle.cells_grid.specs.Crowding.{neighbour_in}
 use Rattle.cells_grid.specs.Pairs.{raised, Room, size_in, squares_in, Laid, row_for, low_in, later_in, later_row, later_of, risen, others}
-use Rattle.cells_grid.specs.RaisedLaws.{raised_part, raised_above, raised_set, many_fits, Raising, raising_start, raising_length, raising_room, raising_more, raising_end, raising_left, laid_raised}
-use Rattle.cells_grid.specs.PairLaws.{later_few, all_room, all_counted}
+use Rattle.cells_grid.proofs.RaisedLaws.{raised_part, raised_above, raised_set, many_fits, Raising, raising_start, raising_length, raising_room, raising_more, raising_end, raising_left, laid_raised}
+use Rattle.cells_grid.proofs.PairLaws.{later_few, all_room, all_counted}
 use Rattle.cells_grid.proofs.Neighbours.{stretch_fits, rest_fits, rest_short, row_parts}
 
 -- ---- one frame

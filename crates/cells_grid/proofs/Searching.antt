@@ -15,8 +15,8 @@ use Rattle.lists.specs.Words.{over, part}
 use Rattle.lists.specs.Sorting.{numbered}
 use Rattle.lists.specs.ListLaws.{append_one, append_two}
 use Rattle.lists.specs.CountLaws.{keep_append}
-use Rattle.lists.specs.WordLaws.{over_length, over_nil, over_snoc, over_next}
-use Rattle.lists.specs.PartLaws.{get_under, part_step, part_under}
+use Rattle.lists.proofs.WordLaws.{over_length, over_nil, over_snoc, over_next}
+use Rattle.lists.proofs.PartLaws.{get_under, part_step, part_under}
 use Rattle.hyperparams.specs.declared.ValidParams.{ValidParams}
 use Rattle.counting_tree.specs.Geometry.{Geometry}
 use Rattle.counting_tree.specs.Ready.{geometry_at, Ready, at_frames}
@@ -27,9 +27,9 @@ use Rattle.blocks.specs.SortedLaws.{Stretched, stretch_holds}
 use Rattle.cells_grid.specs.Cells.{cells}
 use Rattle.cells_grid.specs.Arrangement.{cell_at, Arranged}
 use Rattle.cells_grid.specs.Ready.{ready_lawful}
-use Rattle.cells_grid.specs.ArrangementLaws.{words_room, first_word, first_word_low, arranged_over}
+use Rattle.cells_grid.proofs.ArrangementLaws.{words_room, first_word, first_word_low, arranged_over}
 use Rattle.cells_grid.specs.Listing.{reach_of, unmarked, cell_key, near_at, near_in, list_in, CellsSorted, MarkedRuns}
-use Rattle.cells_grid.specs.ListingLaws.{unmarked_more, unmarked_append, unmarked_over, few, in_below, cells_sorted_over, sorted_cell, marked_runs_over}
+use Rattle.cells_grid.proofs.ListingLaws.{unmarked_more, unmarked_append, unmarked_over, few, in_below, cells_sorted_over, sorted_cell, marked_runs_over}
 
 module _ {v : ValidParams} {n : ℕ} {ps : List ℤ} {i : ℕ} {first : List ℕ} (R : Rows (reach_of v) v n ps i first) where
   -- ---- whether a cell is found: its number first, then whether its first frame j is near, then its row

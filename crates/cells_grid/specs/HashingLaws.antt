@@ -9,9 +9,9 @@ use Rattle.std.proofs.Math.Dec.{T}
 use Rattle.std.proofs.Math.ListN.{length, get_or, length-map}
 use Rattle.lists.specs.ListLaws.{both_ways, at_map}
 use Rattle.lists.specs.Words.{over}
-use Rattle.lists.specs.WordLaws.{over_length, over_next}
+use Rattle.lists.proofs.WordLaws.{over_length, over_next}
 use Rattle.lists.specs.Buckets.{hashes, hash_of}
-use Rattle.lists.specs.BucketLaws.{hash_below, bucket_below}
+use Rattle.lists.proofs.BucketLaws.{hash_below, bucket_below}
 use Rattle.hyperparams.specs.declared.ValidParams.{ValidParams}
 use Rattle.counting_tree.specs.Frames.{Frame, frames_in}
 use Rattle.counting_tree.specs.FramesIn.{frames_length, frame_length}

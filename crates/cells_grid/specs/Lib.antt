@@ -1,15 +1,10 @@
 pub mod Cells
 pub mod Lawful
 pub mod Arrangement
-pub mod CellLaws
 pub mod Places
 pub mod Hashing
 pub mod HashingLaws
-pub mod ArrangementLaws
 pub mod Ready
 pub mod Crowding
 pub mod Listing
-pub mod ListingLaws
 pub mod Pairs
-pub mod RaisedLaws
-pub mod PairLaws

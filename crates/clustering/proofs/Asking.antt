@@ -9,8 +9,8 @@ use borrow.Rule.Slice.PartMut.{put_mid}
 use Rattle.lists.specs.Lists.{In, Below}
 use Rattle.lists.specs.Words.{over, part, column, Clear}
 use Rattle.lists.specs.ListLaws.{at_in}
-use Rattle.lists.specs.WordLaws.{over_again, over_length}
-use Rattle.lists.specs.PartLaws.{part_length, part_same, part_under, part_at}
+use Rattle.lists.proofs.WordLaws.{over_again, over_length}
+use Rattle.lists.proofs.PartLaws.{part_length, part_same, part_under, part_at}
 use Rattle.hyperparams.specs.Params.{max_frames}
 use Rattle.hyperparams.specs.declared.ValidParams.{ValidParams}
 use Rattle.counting_tree.specs.Geometry.{Geometry}
@@ -18,7 +18,7 @@ use Rattle.counting_tree.specs.Ready.{geometry_at, Ready}
 use Rattle.blocks.specs.Blocks.{sorted_by}
 use Rattle.cells_grid.specs.Arrangement.{Arranged}
 use Rattle.cells_grid.specs.Listing.{cell_key, unmarked, later_of, CellsSorted, MarkedRuns}
-use Rattle.cells_grid.specs.ListingLaws.{in_unmarked, later_sound, unmarked_later_length, unmarked_later_cleared}
+use Rattle.cells_grid.proofs.ListingLaws.{in_unmarked, later_sound, unmarked_later_length, unmarked_later_cleared}
 use Rattle.core_cells.specs.Forest.{Grown}
 use Rattle.core_cells.specs.ForestLaws.{grown_over}
 use Rattle.partitions.specs.Leaders.{Falling, root}

@@ -10,16 +10,16 @@ use lib.ListN.{length, get_or, replicate}
 use Rattle.lists.specs.Lists.{numbers, keep, head_or, In, nonzero}
 use Rattle.lists.specs.Words.{over, Clear}
 use Rattle.lists.specs.OrderLaws.{below_at}
-use Rattle.lists.specs.WordLaws.{over_length}
-use Rattle.lists.specs.PartLaws.{get_laid}
-use Rattle.lists.specs.LoopLaws.{Lowest, lowest_same, lowest_less, lowest_end}
+use Rattle.lists.proofs.WordLaws.{over_length}
+use Rattle.lists.proofs.PartLaws.{get_laid}
+use Rattle.lists.proofs.LoopLaws.{Lowest, lowest_same, lowest_less, lowest_end}
 use Rattle.hyperparams.specs.declared.ValidParams.{ValidParams}
 use Rattle.counting_tree.specs.Geometry.{Geometry}
 use Rattle.counting_tree.specs.Ready.{geometry_at, Ready}
 use Rattle.cells_grid.specs.Cells.{cells, cell_number, listed, count}
 use Rattle.cells_grid.specs.Arrangement.{cell_at, Arranged}
 use Rattle.cells_grid.specs.Listing.{list_of, CellsSorted}
-use Rattle.cells_grid.specs.ListingLaws.{list_sound, list_complete, list_length, list_cleared}
+use Rattle.cells_grid.proofs.ListingLaws.{list_sound, list_complete, list_length, list_cleared}
 use Rattle.core_cells.specs.Forest.{Grown}
 use Rattle.core_cells.specs.ForestLaws.{grown_over}
 use Rattle.clustering.specs.Numbering.{borders_at}

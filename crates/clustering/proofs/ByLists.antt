@@ -13,16 +13,16 @@ use lib.Seq.{drop-cons}
 use Rattle.lists.specs.Lists.{In, nonzero}
 use Rattle.lists.specs.Words.{over, part, rest, Clear}
 use Rattle.lists.specs.ListLaws.{true_T, at_in, keep_same}
-use Rattle.lists.specs.WordLaws.{over_self, over_again, over_length, over_apart}
-use Rattle.lists.specs.PartLaws.{part_length, part_same, part_under, part_above, part_at, get_above, clear_after}
-use Rattle.lists.specs.LoopLaws.{rest_step, rest_end}
+use Rattle.lists.proofs.WordLaws.{over_self, over_again, over_length, over_apart}
+use Rattle.lists.proofs.PartLaws.{part_length, part_same, part_under, part_above, part_at, get_above, clear_after}
+use Rattle.lists.proofs.LoopLaws.{rest_step, rest_end}
 use Rattle.hyperparams.specs.declared.ValidParams.{ValidParams}
 use Rattle.counting_tree.specs.Geometry.{Geometry}
 use Rattle.counting_tree.specs.Ready.{geometry_at, Ready}
 use Rattle.cells_grid.specs.Cells.{cells}
 use Rattle.cells_grid.specs.Arrangement.{Arranged}
 use Rattle.cells_grid.specs.Listing.{unmarked, later_of, CellsSorted, MarkedRuns}
-use Rattle.cells_grid.specs.ListingLaws.{in_unmarked, later_sound, unmarked_later_length, unmarked_later_cleared, cells_sorted_over}
+use Rattle.cells_grid.proofs.ListingLaws.{in_unmarked, later_sound, unmarked_later_length, unmarked_later_cleared, cells_sorted_over}
 use Rattle.core_cells.specs.Forest.{Grown}
 use Rattle.core_cells.specs.ForestLaws.{grown_over}
 use Rattle.partitions.specs.Leaders.{Falling, root}
@@ -30,9 +30,9 @@ use Rattle.partitions.specs.LeaderLaws.{Stands, own_stands}
 use Rattle.partitions.specs.Trials.{by_lowest}
 use Rattle.partitions.specs.TrialLaws.{Within}
 use Rattle.clustering.specs.Uniting.{pair_at, one_pair, pairs_with}
-use Rattle.clustering.specs.UnitingLaws.{parts_pair, with_more, with_none, with_within, one_within}
+use Rattle.clustering.proofs.UnitingLaws.{parts_pair, with_more, with_none, with_within, one_within}
 use Rattle.clustering.specs.UniteAll.{link_at, meet_all, by_own_leaders, unlike, pairs_by}
-use Rattle.clustering.specs.UniteAllLaws.{meet_append, all_stand}
+use Rattle.clustering.proofs.UniteAllLaws.{meet_append, all_stand}
 use Rattle.clustering.specs.Runs.{RunsIn}
 use Rattle.clustering.specs.RunsLaws.{runs_over, marked_runs}
 use Rattle.clustering.proofs.Held.{frames, few_cells, cell_count_lem, is_cell_lem, tree_held}

@@ -11,9 +11,9 @@ use borrow.Author.Tests.{lt-ltb, le-ltb}
 use borrow.Rule.Slice.PartMut.{put_mid}
 use Rattle.lists.specs.Words.{over, part, rest}
 use Rattle.lists.specs.ListLaws.{true_T, T_true, not_turn}
-use Rattle.lists.specs.WordLaws.{over_self}
-use Rattle.lists.specs.PartLaws.{part_length, part_above, part_at}
-use Rattle.lists.specs.LoopLaws.{rest_step, rest_end}
+use Rattle.lists.proofs.WordLaws.{over_self}
+use Rattle.lists.proofs.PartLaws.{part_length, part_above, part_at}
+use Rattle.lists.proofs.LoopLaws.{rest_step, rest_end}
 use Rattle.hyperparams.specs.declared.ValidParams.{ValidParams}
 use Rattle.counting_tree.specs.Frames.{Frame, frames_in}
 use Rattle.counting_tree.specs.Geometry.{Geometry, frame, N}
@@ -22,17 +22,17 @@ use Rattle.counting_tree.specs.Ready.{geometry_at, Ready}
 use Rattle.cells_grid.specs.Cells.{core}
 use Rattle.cells_grid.specs.Arrangement.{cell_at}
 use Rattle.cells_grid.specs.Listing.{sorted_count, CellsSorted}
-use Rattle.cells_grid.specs.ListingLaws.{sorted_few, sorted_cell}
+use Rattle.cells_grid.proofs.ListingLaws.{sorted_few, sorted_cell}
 use Rattle.core_cells.specs.Forest.{Grown}
 use Rattle.partitions.specs.Leaders.{Falling, root, shorten_both, united}
 use Rattle.partitions.specs.TrialLaws.{Within}
 use Rattle.clustering.specs.Clusters.{touches}
 use Rattle.clustering.specs.Uniting.{pair_at, one_pair, touch_at}
-use Rattle.clustering.specs.UnitingLaws.{if_within}
+use Rattle.clustering.proofs.UnitingLaws.{if_within}
 use Rattle.clustering.specs.UniteAll.{link_at, meet_all, by_own_leaders}
-use Rattle.clustering.specs.UniteAllLaws.{meet_append, touch_links}
+use Rattle.clustering.proofs.UniteAllLaws.{meet_append, touch_links}
 use Rattle.clustering.specs.Close.{back, later_at, earlier_at, sorted_cells, close_at, close_pair, close_turns, close_pairs}
-use Rattle.clustering.specs.CloseLaws.{close_pair_lem, close_touches}
+use Rattle.clustering.proofs.CloseLaws.{close_pair_lem, close_touches}
 use Rattle.clustering.proofs.Held.{few_cells, cell_count_lem, is_cell_lem, core_held, first_held, first_low}
 use Rattle.clustering.proofs.ByLists.{left, Leading, leading_start, leaders_now, leading_on, pairs_stand}
 use Rattle.clustering.proofs.Trying.{CanTry, p, P, put, Q}

@@ -7,8 +7,8 @@ use lib.IntN.{ℤ}
 use lib.ListN.{length, set, length-set}
 use Rattle.lists.specs.Words.{over, part, column}
 use Rattle.lists.specs.ListLaws.{length_numbers}
-use Rattle.lists.specs.PartLaws.{set_under}
-use Rattle.lists.specs.LoopLaws.{Fill, fill_start, fill_length, fill_step, fill_under, fill_end}
+use Rattle.lists.proofs.PartLaws.{set_under}
+use Rattle.lists.proofs.LoopLaws.{Fill, fill_start, fill_length, fill_step, fill_under, fill_end}
 use Rattle.hyperparams.specs.declared.ValidParams.{ValidParams}
 use Rattle.counting_tree.specs.Ready.{Ready}
 use Rattle.clustering.proofs.Searching.{CanSearch, search_over}

@@ -8,8 +8,8 @@ use native.Mathlib.Omega.{arith}
 use lib.ListN.{length, get_or, set}
 use Rattle.lists.specs.Words.{over, column}
 use Rattle.lists.specs.ListLaws.{at_numbers, length_numbers}
-use Rattle.lists.specs.PartLaws.{get_laid, get_above}
-use Rattle.lists.specs.LoopLaws.{Fill, fill_step}
+use Rattle.lists.proofs.PartLaws.{get_laid, get_above}
+use Rattle.lists.proofs.LoopLaws.{Fill, fill_step}
 use Rattle.partitions.specs.Leaders.{Falling, root}
 use Rattle.partitions.specs.LeaderLaws.{root_own, root_next}
 

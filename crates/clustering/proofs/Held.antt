@@ -19,7 +19,7 @@ use Rattle.cells_grid.specs.Lawful.{Lawful}
 use Rattle.cells_grid.specs.Ready.{ready_lawful}
 use Rattle.cells_grid.specs.Arrangement.{cell_at, core_bit, Arranged}
 use Rattle.cells_grid.specs.Places.{end_in}
-use Rattle.cells_grid.specs.ArrangementLaws.{words_count, first_word, first_word_low, cell_size, number_word, number_below, core_word}
+use Rattle.cells_grid.proofs.ArrangementLaws.{words_count, first_word, first_word_low, cell_size, number_word, number_below, core_word}
 use Rattle.core_cells.specs.Forest.{Grown}
 use Rattle.core_cells.specs.ForestLaws.{word_room, is_core_cell, no_tree_node}
 use Rattle.clustering.specs.Uniting.{pair_at}

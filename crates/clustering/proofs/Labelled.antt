@@ -12,18 +12,18 @@ use Rattle.lists.specs.Lists.{numbers, keep, head_or, In, nonzero}
 use Rattle.lists.specs.Words.{part, column}
 use Rattle.lists.specs.ListLaws.{true_T, cond_true, and_right, in_keep, in_numbers, keep_same}
 use Rattle.lists.specs.CountLaws.{keep_keep, keep_map}
-use Rattle.lists.specs.PartLaws.{holds_at}
+use Rattle.lists.proofs.PartLaws.{holds_at}
 use Rattle.hyperparams.specs.declared.ValidParams.{ValidParams}
 use Rattle.counting_tree.specs.Geometry.{Geometry}
 use Rattle.counting_tree.specs.Ready.{geometry_at, Ready}
 use Rattle.cells_grid.specs.Cells.{first, cells, cell_number, listed, core, core_cell, count}
 use Rattle.cells_grid.specs.Lawful.{Lawful}
-use Rattle.cells_grid.specs.CellLaws.{first_same, first_in, number_cell, core_first, in_core_cell, core_cell_in}
+use Rattle.cells_grid.proofs.CellLaws.{first_same, first_in, number_cell, core_first, in_core_cell, core_cell_in}
 use Rattle.cells_grid.specs.Arrangement.{cell_at}
-use Rattle.cells_grid.specs.ArrangementLaws.{cell_at_lem, list_by_number}
+use Rattle.cells_grid.proofs.ArrangementLaws.{cell_at_lem, list_by_number}
 use Rattle.core_cells.specs.Forest.{Grown}
 use Rattle.clustering.specs.Clusters.{place, clusters, touched, label_by, kind_of}
-use Rattle.clustering.specs.ClusterLaws.{number_low, core_label, border_label_lem, noise_label}
+use Rattle.clustering.proofs.ClusterLaws.{number_low, core_label, border_label_lem, noise_label}
 use Rattle.clustering.specs.Numbering.{cluster_word, borders_at}
 use Rattle.clustering.proofs.Held.{counted_core, lawful, frames, cell_count_lem, own_held, own_below, core_held}
 

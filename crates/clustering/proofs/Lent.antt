@@ -6,8 +6,8 @@ use native.Mathlib.Omega.{arith}
 use lib.ListN.{length}
 use borrow.Rule.Slice.PartMut.{put_mid}
 use Rattle.lists.specs.Words.{over, part}
-use Rattle.lists.specs.WordLaws.{put_over}
-use Rattle.lists.specs.PartLaws.{part_length}
+use Rattle.lists.proofs.WordLaws.{put_over}
+use Rattle.lists.proofs.PartLaws.{part_length}
 
 module _ (w : List ℕ) (n k : ℕ) (hk : k ≤ n) (room : 7 * n ≤ length w) where
   whole : 6 * n + k - 6 * n ≡ k

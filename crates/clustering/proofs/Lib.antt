@@ -19,3 +19,11 @@ pub mod Labelled
 pub mod Columns
 pub mod Whole
 pub mod Asking
+pub mod ClusterLaws
+pub mod Leaders
+pub mod LeaderPartition
+pub mod UnitingLaws
+pub mod UniteAllLaws
+pub mod CloseLaws
+pub mod AnyOrderLaws
+pub mod AnyLabelsLaws

@@ -12,8 +12,8 @@ use borrow.Rule.Slice.PartMut.{put_mid}
 use Rattle.lists.specs.Lists.{Below}
 use Rattle.lists.specs.Words.{over, part, column}
 use Rattle.lists.specs.ListLaws.{length_numbers}
-use Rattle.lists.specs.WordLaws.{over_length, over_nil, over_next, set_over}
-use Rattle.lists.specs.PartLaws.{part_length, part_same, part_above, part_below, get_above, set_under}
+use Rattle.lists.proofs.WordLaws.{over_length, over_nil, over_next, set_over}
+use Rattle.lists.proofs.PartLaws.{part_length, part_same, part_above, part_below, get_above, set_under}
 use Rattle.hyperparams.specs.Params.{max_frames}
 use Rattle.partitions.specs.Leaders.{Falling, root}
 use Rattle.clustering.specs.Runs.{leading, runs_of, sorted_marks}

@@ -11,8 +11,8 @@ use borrow.Author.Tests.{eq-eqb, ne_eqb}
 use borrow.Rule.Slice.PartMut.{put_mid}
 use Rattle.lists.specs.Words.{over, part}
 use Rattle.lists.specs.ListLaws.{T_true}
-use Rattle.lists.specs.WordLaws.{over_self}
-use Rattle.lists.specs.PartLaws.{part_at}
+use Rattle.lists.proofs.WordLaws.{over_self}
+use Rattle.lists.proofs.PartLaws.{part_at}
 use Rattle.hyperparams.specs.declared.ValidParams.{ValidParams}
 use Rattle.counting_tree.specs.Geometry.{Geometry}
 use Rattle.counting_tree.specs.Ready.{geometry_at, Ready}

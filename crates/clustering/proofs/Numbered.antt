@@ -10,8 +10,8 @@ use Rattle.lists.specs.Lists.{numbers, how_many, nonzero}
 use Rattle.lists.specs.Words.{over, column}
 use Rattle.lists.specs.ListLaws.{true_T, T_true, at_numbers, length_numbers}
 use Rattle.lists.specs.OrderLaws.{many_snoc, kept_le}
-use Rattle.lists.specs.PartLaws.{get_under, get_laid}
-use Rattle.lists.specs.LoopLaws.{Fill, fill_start, fill_step, fill_end}
+use Rattle.lists.proofs.PartLaws.{get_under, get_laid}
+use Rattle.lists.proofs.LoopLaws.{Fill, fill_start, fill_step, fill_end}
 use Rattle.clustering.specs.Numbering.{core_in, lowest_in, Led, leads, number_by}
 
 pub record Numbered (w : List ℕ) (n k : ℕ) (v : List ℕ) (m c : ℕ) : Type 0 where

@@ -10,9 +10,9 @@ use lib.ListN.{length}
 use Rattle.lists.specs.Lists.{numbers, concat, nonzero}
 use Rattle.lists.specs.Words.{over, part, rest}
 use Rattle.lists.specs.ListLaws.{true_T}
-use Rattle.lists.specs.WordLaws.{over_self, over_again, over_length}
-use Rattle.lists.specs.PartLaws.{part_length, part_same}
-use Rattle.lists.specs.LoopLaws.{rest_start, rest_step, rest_end}
+use Rattle.lists.proofs.WordLaws.{over_self, over_again, over_length}
+use Rattle.lists.proofs.PartLaws.{part_length, part_same}
+use Rattle.lists.proofs.LoopLaws.{rest_start, rest_step, rest_end}
 use Rattle.hyperparams.specs.declared.ValidParams.{ValidParams}
 use Rattle.counting_tree.specs.Geometry.{Geometry}
 use Rattle.counting_tree.specs.Ready.{geometry_at, Ready}
@@ -25,7 +25,7 @@ use Rattle.partitions.specs.Trials.{Holding, Outcome, run, by_leaders, by_lowest
 use Rattle.partitions.specs.TrialLaws.{Alike, alike}
 use Rattle.clustering.specs.declared.uniting.Progress.{Progress}
 use Rattle.clustering.specs.Uniting.{pair_at, one_pair, pairs_with, pairs_of, touch_at, stopped, progress_of}
-use Rattle.clustering.specs.UnitingLaws.{with_more, one_within}
+use Rattle.clustering.proofs.UnitingLaws.{with_more, one_within}
 use Rattle.clustering.proofs.Held.{frames, few_cells, cell_count_lem}
 
 -- ---- the pairs from c and d on

@@ -11,14 +11,14 @@ use borrow.Rule.Slice.PartMut.{put_mid}
 use Rattle.lists.specs.Lists.{numbers, In}
 use Rattle.lists.specs.Words.{over, part, column, Clear}
 use Rattle.lists.specs.ListLaws.{map_same, in_numbers, length_numbers}
-use Rattle.lists.specs.WordLaws.{over_again, over_length, over_apart}
-use Rattle.lists.specs.PartLaws.{part_length, part_same, clear_after}
+use Rattle.lists.proofs.WordLaws.{over_again, over_length, over_apart}
+use Rattle.lists.proofs.PartLaws.{part_length, part_same, clear_after}
 use Rattle.hyperparams.specs.declared.ValidParams.{ValidParams}
 use Rattle.counting_tree.specs.Geometry.{Geometry}
 use Rattle.counting_tree.specs.Ready.{geometry_at, Ready}
 use Rattle.cells_grid.specs.Cells.{cells}
 use Rattle.cells_grid.specs.Listing.{later_of, CellsSorted}
-use Rattle.cells_grid.specs.ListingLaws.{cells_sorted_over}
+use Rattle.cells_grid.proofs.ListingLaws.{cells_sorted_over}
 use Rattle.core_cells.specs.Forest.{Grown}
 use Rattle.core_cells.specs.ForestLaws.{grown_over}
 use Rattle.partitions.specs.Leaders.{Falling, root}
@@ -27,11 +27,11 @@ use Rattle.partitions.specs.Trials.{Outcome, run, by_lowest, by_leaders}
 use Rattle.partitions.specs.TrialLaws.{Within, Alike, alike}
 use Rattle.clustering.specs.declared.uniting.Progress.{Progress}
 use Rattle.clustering.specs.Uniting.{pairs_of, touch_at, progress_by, progress_of, uniting, lowest_at}
-use Rattle.clustering.specs.UnitingLaws.{in_pairs}
+use Rattle.clustering.proofs.UnitingLaws.{in_pairs}
 use Rattle.clustering.specs.UniteAll.{link_at, meet_all, by_own_leaders, pairs_by}
-use Rattle.clustering.specs.UniteAllLaws.{all_stand, lists_stand, later_lists}
+use Rattle.clustering.proofs.UniteAllLaws.{all_stand, lists_stand, later_lists}
 use Rattle.clustering.specs.Close.{sorted_cells, close_pairs}
-use Rattle.clustering.specs.CloseLaws.{close_in}
+use Rattle.clustering.proofs.CloseLaws.{close_in}
 use Rattle.clustering.proofs.Held.{lawful, frames, few_cells, cell_count_lem}
 use Rattle.clustering.proofs.Lent.{lent, lent_length, back}
 use Rattle.clustering.proofs.Closing.{sorted_below}

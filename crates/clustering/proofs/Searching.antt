@@ -8,15 +8,15 @@ use lib.IntN.{ℤ}
 use lib.ListN.{length, replicate}
 use Rattle.lists.specs.Words.{over, column, Clear, Apart}
 use Rattle.lists.specs.Sorting.{places_of, start_of}
-use Rattle.lists.specs.WordLaws.{over_length}
-use Rattle.lists.specs.PartLaws.{clear_after, clear_within}
+use Rattle.lists.proofs.WordLaws.{over_length}
+use Rattle.lists.proofs.PartLaws.{clear_after, clear_within}
 use Rattle.hyperparams.specs.declared.ValidParams.{ValidParams}
 use Rattle.counting_tree.specs.Ready.{geometry_at, Ready}
 use Rattle.blocks.specs.Blocks.{sorted_by}
 use Rattle.blocks.specs.SortedLaws.{places_long, ends_long, sorted_length, sorted_after, sorted_under, sorted_cleared}
 use Rattle.cells_grid.specs.Cells.{cells}
 use Rattle.cells_grid.specs.Listing.{cell_key, CellsSorted}
-use Rattle.cells_grid.specs.ListingLaws.{few, cell_key_below, cells_sorted_over}
+use Rattle.cells_grid.proofs.ListingLaws.{few, cell_key_below, cells_sorted_over}
 use Rattle.core_cells.specs.Forest.{Grown}
 use Rattle.core_cells.specs.ForestLaws.{grown_over}
 use Rattle.clustering.proofs.Held.{frames}

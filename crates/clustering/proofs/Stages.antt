@@ -9,23 +9,23 @@ use Rattle.lists.specs.Lists.{numbers, Below}
 use Rattle.lists.specs.Words.{over, part, column, rest, Clear}
 use Rattle.lists.specs.ListLaws.{in_from, length_numbers}
 use Rattle.lists.specs.OrderLaws.{numbers_split}
-use Rattle.lists.specs.WordLaws.{over_self, over_again, over_length, over_apart}
-use Rattle.lists.specs.PartLaws.{part_length, part_same, part_under, part_above, over_cover, holds_at}
-use Rattle.lists.specs.SortLaws.{places_of_below}
+use Rattle.lists.proofs.WordLaws.{over_self, over_again, over_length, over_apart}
+use Rattle.lists.proofs.PartLaws.{part_length, part_same, part_under, part_above, over_cover, holds_at}
+use Rattle.lists.proofs.SortLaws.{places_of_below}
 use Rattle.hyperparams.specs.Params.{max_frames}
 use Rattle.hyperparams.specs.declared.ValidParams.{ValidParams}
 use Rattle.counting_tree.specs.Geometry.{Geometry}
 use Rattle.counting_tree.specs.Ready.{geometry_at, Ready}
 use Rattle.cells_grid.specs.Cells.{cells}
 use Rattle.cells_grid.specs.Listing.{cell_key, later_of, CellsSorted}
-use Rattle.cells_grid.specs.ListingLaws.{later_sound}
+use Rattle.cells_grid.proofs.ListingLaws.{later_sound}
 use Rattle.core_cells.specs.Forest.{Grown}
 use Rattle.partitions.specs.Leaders.{Falling, root}
 use Rattle.partitions.specs.LeaderLaws.{Stands, own_stands, flat_stands}
 use Rattle.partitions.specs.Trials.{by_lowest}
 use Rattle.partitions.specs.TrialLaws.{Within}
 use Rattle.clustering.specs.UniteAll.{link_at, meet_all, by_own_leaders, unlike, pairs_by}
-use Rattle.clustering.specs.UniteAllLaws.{meet_append, by_append, by_within, unlike_stand}
+use Rattle.clustering.proofs.UniteAllLaws.{meet_append, by_append, by_within, unlike_stand}
 use Rattle.clustering.specs.Runs.{runs_of, RunsIn}
 use Rattle.clustering.specs.RunsLaws.{runs_length, marks_are}
 use Rattle.clustering.proofs.Held.{few_cells, cell_count_lem, is_cell_lem}

@@ -11,15 +11,15 @@ use lib.ListN.{length, get_or}
 use Rattle.lists.specs.Lists.{keep, any, In, Below, nonzero}
 use Rattle.lists.specs.Words.{part}
 use Rattle.lists.specs.ListLaws.{any_none}
-use Rattle.lists.specs.PartLaws.{part_first}
+use Rattle.lists.proofs.PartLaws.{part_first}
 use Rattle.hyperparams.specs.declared.ValidParams.{ValidParams}
 use Rattle.counting_tree.specs.Geometry.{Geometry}
 use Rattle.counting_tree.specs.Ready.{geometry_at, Ready}
 use Rattle.cells_grid.specs.Cells.{core, core_members, count}
-use Rattle.cells_grid.specs.CellLaws.{in_member}
+use Rattle.cells_grid.proofs.CellLaws.{in_member}
 use Rattle.cells_grid.specs.Arrangement.{cell_at}
 use Rattle.cells_grid.specs.Places.{end_in}
-use Rattle.cells_grid.specs.ArrangementLaws.{cell_size, cell_end_le, cell_places}
+use Rattle.cells_grid.proofs.ArrangementLaws.{cell_size, cell_end_le, cell_places}
 use Rattle.core_cells.specs.Forest.{Grown}
 use Rattle.clustering.specs.Clusters.{touches}
 use Rattle.clustering.proofs.Held.{lawful, frames, room, core_held}

@@ -10,8 +10,8 @@ use lib.IntN.{ℤ}
 use lib.ListN.{length}
 use borrow.Rule.Slice.PartMut.{put_mid}
 use Rattle.lists.specs.Words.{over, part}
-use Rattle.lists.specs.WordLaws.{over_self, over_again, over_length}
-use Rattle.lists.specs.PartLaws.{part_length, part_same}
+use Rattle.lists.proofs.WordLaws.{over_self, over_again, over_length}
+use Rattle.lists.proofs.PartLaws.{part_length, part_same}
 use Rattle.lists.specs.ListLaws.{not_turn}
 use Rattle.hyperparams.specs.Params.{max_frames}
 use Rattle.hyperparams.specs.declared.ValidParams.{ValidParams}

@@ -11,21 +11,21 @@ use lib.ListN.{length, get_or}
 use Rattle.lists.specs.Lists.{any, In, nonzero}
 use Rattle.lists.specs.Words.{part, rest}
 use Rattle.lists.specs.ListLaws.{true_T, T_true, any_in}
-use Rattle.lists.specs.PartLaws.{part_at}
-use Rattle.lists.specs.LoopLaws.{rest_start, rest_step, rest_end}
+use Rattle.lists.proofs.PartLaws.{part_at}
+use Rattle.lists.proofs.LoopLaws.{rest_start, rest_step, rest_end}
 use Rattle.hyperparams.specs.declared.ValidParams.{ValidParams}
 use Rattle.counting_tree.specs.Geometry.{Geometry}
 use Rattle.counting_tree.specs.Ready.{geometry_at, Ready}
 use Rattle.cells_grid.specs.Cells.{members, core, count}
 use Rattle.cells_grid.specs.Arrangement.{cell_at}
 use Rattle.cells_grid.specs.Places.{end_in}
-use Rattle.cells_grid.specs.ArrangementLaws.{cell_size, cell_end_le, cell_places, place_below}
+use Rattle.cells_grid.proofs.ArrangementLaws.{cell_size, cell_end_le, cell_places, place_below}
 use Rattle.core_cells.specs.Forest.{tree_frames, Grown}
 use Rattle.core_cells.specs.Settling.{Apart}
 use Rattle.clustering.specs.Clusters.{touches}
 use Rattle.clustering.specs.Uniting.{touch_at}
 use Rattle.clustering.specs.UniteAll.{link_at}
-use Rattle.clustering.specs.UniteAllLaws.{touch_links}
+use Rattle.clustering.proofs.UniteAllLaws.{touch_links}
 use Rattle.clustering.specs.Turns.{size_at, asked_at, turn_at}
 use Rattle.clustering.specs.TurnsLaws.{any_stretches, turns_link}
 use Rattle.clustering.proofs.Held.{lawful, frames, core_held}

@@ -10,8 +10,8 @@ use lib.ListN.{length, replicate, length-append, length-replicate}
 use Rattle.lists.specs.Lists.{numbers, how_many}
 use Rattle.lists.specs.Words.{over, part, column, Clear}
 use Rattle.lists.specs.ListLaws.{map_same, in_numbers, length_numbers}
-use Rattle.lists.specs.WordLaws.{over_again, over_length, over_next, over_apart}
-use Rattle.lists.specs.PartLaws.{part_same, part_under, holds_at}
+use Rattle.lists.proofs.WordLaws.{over_again, over_length, over_next, over_apart}
+use Rattle.lists.proofs.PartLaws.{part_same, part_under, holds_at}
 use Rattle.hyperparams.specs.Params.{max_frames}
 use Rattle.hyperparams.specs.declared.ValidParams.{ValidParams}
 use Rattle.counting_tree.specs.Geometry.{Geometry}
@@ -23,7 +23,7 @@ use Rattle.cells_grid.specs.Listing.{cell_key, CellsSorted}
 use Rattle.core_cells.specs.Forest.{Grown}
 use Rattle.clustering.specs.Clusters.{place, clusters, label_by, kind_of}
 use Rattle.clustering.specs.Uniting.{uniting, lowest_at}
-use Rattle.clustering.specs.UnitingLaws.{uniting_finishes, lowest_led, cluster_total, cluster_word_lem}
+use Rattle.clustering.proofs.UnitingLaws.{uniting_finishes, lowest_led, cluster_total, cluster_word_lem}
 use Rattle.clustering.specs.Numbering.{core_in, lowest_in, Led, leads, number_by, cluster_word}
 use Rattle.clustering.specs.NumberingLaws.{led_same, leads_same, number_same}
 use Rattle.clustering.proofs.Held.{lawful, cell_count_lem, few_cells, tree_held}

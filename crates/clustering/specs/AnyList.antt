@@ -15,7 +15,7 @@ use Rattle.counting_tree.specs.Geometry.{Geometry}
 use Rattle.counting_tree.specs.Paths.{counted_by, any_children}
 use Rattle.cells_grid.specs.Cells.{members, first, list, dense, core, core_members, node, count}
 use Rattle.cells_grid.specs.Lawful.{Lawful}
-use Rattle.cells_grid.specs.CellLaws.{core_by_cells}
+use Rattle.cells_grid.proofs.CellLaws.{core_by_cells}
 use Rattle.clustering.specs.Clusters.{border_label, border_kind, touched, label_by, kind_of}
 use Rattle.clustering.specs.Clusters as Clusters
 use Rattle.clustering.specs.AnyOrder.{Children}

@@ -1,20 +1,14 @@
 -- The source's `unite_neighbouring_cells` visits the cells in the order of a hash table, tries each pair from the visited cell only, and skips pairs already in one set.
 -- In whatever order it takes cells, lists and the children of nodes, and whichever leader a union keeps, it ends in the clusters of the definition.
 use Rattle.std.specs.Prelude.{◌≡◌, refl, ◌⊎◌, ◌↔◌, Bool, true, false, not, ◌||◌, cond, List, [], ◌∷◌, ℕ, length}
-use Rattle.std.proofs.Common.{sym}
 use Rattle.std.proofs.Math.Logic.{inl, inr}
 use Rattle.std.proofs.Math.Dec.{T}
-use Rattle.lists.specs.Lists.{keep, any, concat, groups, In, holds, nonzero}
-use Rattle.lists.specs.ListLaws.{true_T, T_true, or_cases, or_one, both_ways, keep_in, in_keep, any_in, any_shuffle, concat_in, holds_in, in_holds}
-use Rattle.lists.specs.Chains.{alone, step, chain_first, chain_join, chain_turn}
+use Rattle.lists.specs.Lists.{keep, any, groups, In, nonzero}
+use Rattle.lists.specs.ListLaws.{true_T, T_true, any_shuffle}
 use Rattle.counting_tree.specs.Geometry.{Geometry}
 use Rattle.counting_tree.specs.Paths.{counted_by, any_children}
-use Rattle.cells_grid.specs.Cells.{cells, list, listed, core_members, core_cell, core_cells, node, count}
-use Rattle.cells_grid.specs.Lawful.{Lawful}
-use Rattle.cells_grid.specs.CellLaws.{list_in_lem, in_list, listed_turn, core_cell_in, in_core_cell}
-use Rattle.clustering.specs.Clusters.{touches, linked, clusters, place}
-use Rattle.clustering.specs.Sets.{place_same, place_meet}
-use Rattle.clustering.specs.ClusterLaws.{Linked, linked_parts, parts_linked, link_turn, same_cluster}
+use Rattle.cells_grid.specs.Cells.{core_members, core_cell, node, count}
+use Rattle.clustering.specs.Clusters.{touches}
 
 -- x and y are in one set after those of c and d are joined
 abbrev pub OneAfter : (same : ℕ → ℕ → Bool) → ℕ → ℕ → ℕ → ℕ → Type 0
@@ -91,7 +85,7 @@ module _ (P : Partition) (is_core : ℕ → Bool) (touch : ℕ → ℕ → Bool)
   inner_joins c (a ∷ ds) p d (inl e) h k = inner_rec (λ q. T (P.same q c d)) c ds (λ b i q. visit_keeps c d c b q) (visit c a p) (rw (← e) (visit_joins c d p h k))
   inner_joins c (a ∷ ds) p d (inr i) h k = inner_joins c ds (visit c a p) d i h k
 
-  outer_joins : (lists : ℕ → List ℕ) (cs : List ℕ) (p : P.State) (c d : ℕ) → In c cs → T (is_core c) → In d (lists c) → T (is_core d) → T (touch c d) → T (P.same (outer lists cs p) c d)
+  pub outer_joins : (lists : ℕ → List ℕ) (cs : List ℕ) (p : P.State) (c d : ℕ) → In c cs → T (is_core c) → In d (lists c) → T (is_core d) → T (touch c d) → T (P.same (outer lists cs p) c d)
   outer_joins lists [] p c d i h j k t = absurd i
   outer_joins lists (a ∷ cs) p c d (inl e) h j k t =
       outer_rec (λ q. T (P.same q c d)) lists cs (λ x y i m n q. visit_keeps c d x y q) (cond (is_core a) (inner a (lists a) p) p)
@@ -100,7 +94,7 @@ module _ (P : Partition) (is_core : ℕ → Bool) (touch : ℕ → ℕ → Bool)
 
   -- a relation that holds wherever a pair is united holds in each set
   module _ (R : ℕ → ℕ → Type 0) (turn : (x y : ℕ) → R x y → R y x) (join : (x y z : ℕ) → R x y → R y z → R x z) where
-    visit_sound : (c d : ℕ) (p : P.State) → (T (is_core d) → T (touch c d) → R c d) → ((x y : ℕ) → T (P.same p x y) → R x y) → (x y : ℕ) → T (P.same (visit c d p) x y) → R x y
+    pub visit_sound : (c d : ℕ) (p : P.State) → (T (is_core d) → T (touch c d) → R c d) → ((x y : ℕ) → T (P.same p x y) → R x y) → (x y : ℕ) → T (P.same (visit c d p) x y) → R x y
     visit_sound c d p f s x y = go (is_core d) (P.same p c d) (touch c d) f
       where
         go : (a b e : Bool) → (T a → T e → R c d) → T (P.same (cond (not a || b) p (cond e (P.unite c d p) p)) x y) → R x y
@@ -127,7 +121,7 @@ module _ (g : Geometry) where
   abbrev pub Children : (ℕ → ℕ → List ℕ → List (List ℕ)) → Type 0
   Children children = (d l : ℕ) (xs s : List ℕ) → In s (children d l xs) ↔ In s (groups (g.same l) xs)
 
-  touches_by_lem : (children : ℕ → ℕ → List ℕ → List (List ℕ)) → Children children → (c d : ℕ) → touches_by children c d ≡ touches g c d
+  pub touches_by_lem : (children : ℕ → ℕ → List ℕ → List (List ℕ)) → Children children → (c d : ℕ) → touches_by children c d ≡ touches g c d
   unfolding touches_by touches count node
   touches_by_lem children kids c d =
       any_shuffle (λ p. nonzero (length (counted_by (children d) (g.box p) g.levels 0 (core_members g d)))) (λ p. nonzero (count g p d)) (core_members g c) (core_members g c)
@@ -136,91 +130,3 @@ module _ (g : Geometry) where
   -- the sets with a core cell
   abbrev pub core_sets : List (List ℕ) → List (List ℕ)
   core_sets sets = keep (any (core_cell g)) sets
-
-  -- one cell, or two that a chain of links joins
-  unfoldable Tied : ℕ → ℕ → Type 0
-  Tied x y = (x ≡ y) ⊎ Linked g x y
-
-module _ (g : Geometry) (L : Lawful g) where
-  tied_turn : (x y : ℕ) → Tied g x y → Tied g y x
-  unfolding Tied
-  tied_turn x y (inl e) = inl (sym e)
-  tied_turn x y (inr t) = inr (chain_turn (link_turn g L) t)
-
-  tied_join : (x y z : ℕ) → Tied g x y → Tied g y z → Tied g x z
-  unfolding Tied
-  tied_join x y z (inl e) t = rw e t
-  tied_join x y z (inr s) (inl e) = inr (rw e at s)
-  tied_join x y z (inr s) (inr t) = inr (chain_join s t)
-
-  module _ (P : Partition) (children : ℕ → ℕ → List ℕ → List (List ℕ)) (kids : Children g children) (order : List ℕ) (lists : ℕ → List ℕ) where
-    abbrev one_set : ℕ → ℕ → Type 0
-    one_set c d = T (P.same (united g P children order lists) c d)
-
-    -- only cells that a chain of links joins end in one set: also where the loop was stopped, and not all cells or not all of a list were tried
-    pub loop_sound : ((c : ℕ) → In c order → In c (cells g)) → ((c d : ℕ) → In d (lists c) → In d (list g c)) → (c d : ℕ) → In c (core_cells g) → one_set c d → Linked g c d
-    unfolding united Tied
-    loop_sound cells_in lists-in c d i t = elim (all c d t) [ inl e ↦ rw (← e) (alone i) | inr h ↦ h ]
-      where
-        link : (c d : ℕ) → In c order → T (core_cell g c) → In d (lists c) → T (core_cell g d) → T (touches_by g children c d) → Tied g c d
-        link c d i h j k t =
-            let w = in_list g c d (lists-in c d j) in
-            let touch = or_one (touches g c d) (touches g d c) (rw (touches_by_lem g children kids c d) at t) in
-            inr (step (core_cell_in g c (cells_in c i) h) (parts_linked g c d w.1 touch) (alone (core_cell_in g d w.0 k)))
-
-        all : (c d : ℕ) → T (P.same (united g P children order lists) c d) → Tied g c d
-        all = outer_rec P (core_cell g) (touches_by g children) (λ p. (x y : ℕ) → T (P.same p x y) → Tied g x y) lists order
-            (λ c d i h j p s. visit_sound P (core_cell g) (touches_by g children) (Tied g) tied_turn tied_join c d p (link c d i h j) s)
-            P.start (λ x y t. inl (P.start_apart x y t))
-
-    module _ (cells_in : (c : ℕ) → In c order ↔ In c (cells g)) (lists-in : (c d : ℕ) → In d (lists c) ↔ In d (list g c)) where
-      -- a pair is tried from c
-      try : (c d : ℕ) → In c (core_cells g) → In d (core_cells g) → T (listed g c d) → T (touches g c d) → one_set c d
-      unfolding united
-      try c d i j l t =
-          let a = in_core_cell g c i in
-          let b = in_core_cell g d j in
-          outer_joins P (core_cell g) (touches_by g children) lists order P.start c d ((cells_in c).1 a.0) a.1 ((lists-in c d).1 (list_in_lem g c d b.0 l)) b.1
-          (rw (touches_by_lem g children kids c d) t)
-
-      link_joins : (c d : ℕ) → In c (core_cells g) → In d (core_cells g) → T (linked g c d) → one_set c d
-      link_joins c d i j h =
-          let z = linked_parts g c d h in
-          elim (or_cases (touches g c d) (touches g d c) z.1) [
-            | inl t ↦ try c d i j z.0 t
-            | inr t ↦ P.same_turn (united g P children order lists) d c (try d c j i (listed_turn g L c d z.0) t)
-          ]
-
-      pub loop_complete : {c d : ℕ} → Linked g c d → one_set c d
-      loop_complete (alone {p = c} i) = P.same_self (united g P children order lists) c
-      loop_complete (step {p = c} {q = d} {r = e} i h t) = P.same_join (united g P children order lists) c d e (link_joins c d i (chain_first t) h) (loop_complete t)
-
-      -- THE ORDER DOES NOT MATTER: two core cells end in one set exactly if the definition gives them one number
-      pub any_order : (c d : ℕ) → In c (core_cells g) → In d (core_cells g) → T (P.same (united g P children order lists) c d) ↔ (place c (clusters g) ≡ place d (clusters g))
-      any_order c d i j = (
-        λ t. (same_cluster g L c d i j).1 (loop_sound (λ c. (cells_in c).0) (λ c d. (lists-in c d).0) c d i t),
-        λ e. loop_complete ((same_cluster g L c d i j).0 e),
-      )
-
-      -- "for set in grid.cells_mut().all_sets_mut()", "if core_cells_count > 0 { current_cluster_i += 1; }": a cell's number is that of its set among the sets with a core cell.
-      -- In whatever order the sets are taken, two core cells have one number exactly if the definition gives them one.
-      pub any_numbers : (sets : List (List ℕ)) → ((c : ℕ) → In c (cells g) → (s : List ℕ) × In s sets × In c s)
-          → ((s : List ℕ) → In s sets → (c d : ℕ) → In c (cells g) → In d (cells g) → In c s → In d s ↔ one_set c d)
-          → (c d : ℕ) → In c (core_cells g) → In d (core_cells g) → (place c (core_sets g sets) ≡ place d (core_sets g sets)) ↔ (place c (clusters g) ≡ place d (clusters g))
-      any_numbers sets all exact c d i j = (
-        λ e.
-            let z = place_meet c d (core_sets g sets) (inside c i) (inside d j) e in
-            (any_order c d i j).0 ((exact z.0 (in_keep (any (core_cell g)) z.0 sets z.1).0 c d (in_core_cell g c i).0 (in_core_cell g d j).0 z.2).0 z.3),
-        λ e. place_same c d (core_sets g sets) (λ s k. both_ways (holds c s) (holds d s)
-            (λ h. moved s k c d i j h ((any_order c d i j).1 e))
-            (λ h. moved s k d c j i h ((any_order d c j i).1 (sym e)))),
-      )
-        where
-          inside : (c : ℕ) → In c (core_cells g) → In c (concat (core_sets g sets))
-          inside c i =
-              let k = in_core_cell g c i in
-              let z = all c k.0 in
-              concat_in c z.0 (core_sets g sets) (keep_in (any (core_cell g)) z.0 sets z.1 (any_in (core_cell g) c z.0 z.2 k.1)) z.2
-
-          moved : (s : List ℕ) → In s (core_sets g sets) → (c d : ℕ) → In c (core_cells g) → In d (core_cells g) → T (holds c s) → one_set c d → T (holds d s)
-          moved s k c d i j h t = holds_in d s ((exact s (in_keep (any (core_cell g)) s sets k).0 c d (in_core_cell g c i).0 (in_core_cell g d j).0 (in_holds c s h)).1 t)

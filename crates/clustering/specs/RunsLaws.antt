@@ -4,7 +4,7 @@ use Rattle.std.proofs.Common.{sym, ap, ◌∙◌, arith, zero-add, eqb→eq}
 use Rattle.lists.specs.Lists.{Below}
 use Rattle.lists.specs.Words.{over, part, column}
 use Rattle.lists.specs.ListLaws.{true_T, map_same, at_map}
-use Rattle.lists.specs.PartLaws.{part_length, part_above, part_at, get_above, holds_at}
+use Rattle.lists.proofs.PartLaws.{part_length, part_above, part_at, get_above, holds_at}
 use Rattle.cells_grid.specs.Listing.{MarkedRuns}
 use Rattle.clustering.specs.Runs.{leading, runs_of, sorted_marks, RunsIn}
 

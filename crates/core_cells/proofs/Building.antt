@@ -10,8 +10,8 @@ use lib.ListN.{length, get_or, set, replicate, length-replicate}
 use Rattle.lists.specs.Lists.{Below, nonzero}
 use Rattle.lists.specs.Words.{over, part, Clear}
 use Rattle.lists.specs.ListLaws.{nonzero_true}
-use Rattle.lists.specs.WordLaws.{over_length, over_nil, over_again, over_apart, set_over}
-use Rattle.lists.specs.PartLaws.{set_under, part_same, clear_over, clear_after, clear_within}
+use Rattle.lists.proofs.WordLaws.{over_length, over_nil, over_again, over_apart, set_over}
+use Rattle.lists.proofs.PartLaws.{set_under, part_same, clear_over, clear_after, clear_within}
 use Rattle.hyperparams.specs.Params.{max_frames, work_words}
 use Rattle.hyperparams.specs.declared.ValidParams.{ValidParams}
 use Rattle.counting_tree.specs.Geometry.{Geometry}
@@ -21,7 +21,7 @@ use Rattle.cells_grid.specs.Lawful.{Lawful}
 use Rattle.cells_grid.specs.Ready.{ready_lawful}
 use Rattle.cells_grid.specs.Arrangement.{cell_at, start_at, Cored}
 use Rattle.cells_grid.specs.Places.{end_in}
-use Rattle.cells_grid.specs.ArrangementLaws.{start_next, start_le, words_count, cell_size, cell_end_le, cell_places}
+use Rattle.cells_grid.proofs.ArrangementLaws.{start_next, start_le, words_count, cell_size, cell_end_le, cell_places}
 use Rattle.tree_structure.specs.Encode.{size, encode, encode_length}
 use Rattle.tree_structure.specs.Work.{max_levels, max_nodes, CanBuild}
 use Rattle.core_cells.specs.Forest.{core_among, CanGather, tree_frames, is_core, tree_size, tree_words, nodes_to, tree_word}

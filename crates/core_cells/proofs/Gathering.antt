@@ -9,8 +9,8 @@ use lib.ListN.{length, get_or, set, length-append}
 use Rattle.lists.specs.Lists.{keep}
 use Rattle.lists.specs.Words.{over, part}
 use Rattle.lists.specs.CountLaws.{keep_append, keep_le}
-use Rattle.lists.specs.WordLaws.{over_length, over_nil, over_snoc}
-use Rattle.lists.specs.PartLaws.{part_length, part_snoc, part_below, get_under}
+use Rattle.lists.proofs.WordLaws.{over_length, over_nil, over_snoc}
+use Rattle.lists.proofs.PartLaws.{part_length, part_snoc, part_below, get_under}
 use Rattle.core_cells.specs.Forest.{core_among, CanGather}
 use Rattle.core_cells.specs.NearestLaws.{among_none}
 

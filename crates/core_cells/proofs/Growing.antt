@@ -6,11 +6,11 @@ use native.Mathlib.Omega.{arith}
 use lib.ListN.{length}
 use Rattle.lists.specs.Words.{over, column, Clear}
 use Rattle.lists.specs.ListLaws.{length_numbers}
-use Rattle.lists.specs.WordLaws.{over_length, over_nil, over_next, over_apart}
-use Rattle.lists.specs.PartLaws.{column_snoc, clear_before, clear_after}
+use Rattle.lists.proofs.WordLaws.{over_length, over_nil, over_next, over_apart}
+use Rattle.lists.proofs.PartLaws.{column_snoc, clear_before, clear_after}
 use Rattle.counting_tree.specs.Geometry.{Geometry}
 use Rattle.cells_grid.specs.Arrangement.{Cored}
-use Rattle.cells_grid.specs.ArrangementLaws.{cored_over}
+use Rattle.cells_grid.proofs.ArrangementLaws.{cored_over}
 use Rattle.core_cells.specs.Forest.{tree_size, tree_words, nodes_to, forest_to, tree_word}
 use Rattle.core_cells.specs.ForestLaws.{forest_length, forest_next, tree_length, nodes_next}
 use Rattle.core_cells.proofs.Building.{Ripe, cells_few, nodes_room}

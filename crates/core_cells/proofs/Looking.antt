@@ -13,7 +13,7 @@ use lib.ListN.{get_or}
 use Rattle.lists.specs.Lists.{In, any}
 use Rattle.lists.specs.Words.{part}
 use Rattle.lists.specs.ListLaws.{in_append, at_in}
-use Rattle.lists.specs.PartLaws.{part_length, part_at, part_below, part_snoc}
+use Rattle.lists.proofs.PartLaws.{part_length, part_at, part_below, part_snoc}
 use Rattle.counting_tree.specs.declared.IntersectionType.{IntersectionType}
 use Rattle.counting_tree.specs.declared.IntersectionType.TheVariants.{Disjoint, FullyCovered, Intersecting}
 use Rattle.counting_tree.specs.Sound.{four_power}

@@ -16,7 +16,7 @@ use Rattle.cells_grid.specs.Cells.{members}
 use Rattle.cells_grid.specs.Ready.{ready_lawful}
 use Rattle.cells_grid.specs.Arrangement.{cell_at}
 use Rattle.cells_grid.specs.Places.{end_in}
-use Rattle.cells_grid.specs.ArrangementLaws.{cell_places}
+use Rattle.cells_grid.proofs.ArrangementLaws.{cell_places}
 use Rattle.core_cells.specs.Forest.{core_among, tree_frames, Grown}
 use Rattle.core_cells.specs.ForestLaws.{among_core}
 use Rattle.core_cells.specs.Nearest.{CanLook}

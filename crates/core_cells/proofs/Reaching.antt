@@ -27,16 +27,16 @@ use Rattle.counting_tree.specs.Paths.{on_box}
 use Rattle.counting_tree.specs.Domain.{Counts}
 use Rattle.counting_tree.specs.Ready.{geometry_at, Ready, at_frames, square_fits}
 use Rattle.counting_tree.specs.Indexes.{box_level}
-use Rattle.counting_tree.specs.Reach.{near_reaches}
+use Rattle.counting_tree.proofs.Reach.{near_reaches}
 use Rattle.counting_tree.specs.Settled.{settled_by}
 use Rattle.counting_tree.specs.SettledLaws.{settled_disjoint, settled_covered}
 use Rattle.cells_grid.specs.Cells.{node, count}
 use Rattle.cells_grid.specs.Lawful.{Lawful}
 use Rattle.cells_grid.specs.Ready.{ready_lawful}
-use Rattle.cells_grid.specs.CellLaws.{in_member, count_path}
+use Rattle.cells_grid.proofs.CellLaws.{in_member, count_path}
 use Rattle.cells_grid.specs.Arrangement.{cell_at, Cored}
 use Rattle.cells_grid.specs.Places.{end_in}
-use Rattle.cells_grid.specs.ArrangementLaws.{arranged_below, words_count, cell_size, cell_end_le, cell_places}
+use Rattle.cells_grid.proofs.ArrangementLaws.{arranged_below, words_count, cell_size, cell_end_le, cell_places}
 use Rattle.tree_structure.specs.declared.Counted.{Counted}
 use Rattle.tree_structure.specs.Encode.{told_of}
 use Rattle.core_cells.specs.Forest.{core_among, tree_frames, is_core, Grown}

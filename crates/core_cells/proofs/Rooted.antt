@@ -17,7 +17,7 @@ use Rattle.counting_tree.specs.Arrays.{placed, box_of}
 use Rattle.counting_tree.specs.Ready.{geometry_at, Ready, at_frames}
 use Rattle.cells_grid.specs.Ready.{ready_lawful}
 use Rattle.cells_grid.specs.Arrangement.{cell_at}
-use Rattle.cells_grid.specs.ArrangementLaws.{first_word, first_word_low}
+use Rattle.cells_grid.proofs.ArrangementLaws.{first_word, first_word_low}
 use Rattle.core_cells.specs.Forest.{Grown}
 use Rattle.core_cells.specs.RootBox.{root_box}
 

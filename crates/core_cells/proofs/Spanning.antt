@@ -13,7 +13,7 @@ use Rattle.lists.specs.Lists.{In, Below}
 use Rattle.lists.specs.Words.{over, part}
 use Rattle.lists.specs.ListLaws.{map_same}
 use Rattle.lists.specs.OrderLaws.{below_at}
-use Rattle.lists.specs.PartLaws.{part_step}
+use Rattle.lists.proofs.PartLaws.{part_step}
 use Rattle.hyperparams.specs.declared.ValidParams.{ValidParams}
 use Rattle.counting_tree.specs.Frames.{Frame, frames_in}
 use Rattle.counting_tree.specs.Geometry.{Geometry, frame, N}
@@ -25,7 +25,7 @@ use Rattle.cells_grid.specs.Cells.{members}
 use Rattle.cells_grid.specs.Ready.{ready_lawful}
 use Rattle.cells_grid.specs.Arrangement.{cell_at}
 use Rattle.cells_grid.specs.Places.{end_in}
-use Rattle.cells_grid.specs.ArrangementLaws.{cell_size}
+use Rattle.cells_grid.proofs.ArrangementLaws.{cell_size}
 use Rattle.core_cells.specs.declared.spans.Span.{Span}
 use Rattle.core_cells.specs.Forest.{tree_frames, Grown}
 use Rattle.core_cells.specs.Nearest.{CanLook, out_of_reach}

@@ -13,8 +13,8 @@ use Rattle.lists.specs.Lists.{keep, Below, nonzero}
 use Rattle.lists.specs.Words.{over, part, column}
 use Rattle.lists.specs.ListLaws.{true_T, nonzero_true, T_or_not, keep_same, length_numbers}
 use Rattle.lists.specs.CountLaws.{keep_le}
-use Rattle.lists.specs.WordLaws.{over_length}
-use Rattle.lists.specs.PartLaws.{part_part, part_under, part_above, part_same, holds_at}
+use Rattle.lists.proofs.WordLaws.{over_length}
+use Rattle.lists.proofs.PartLaws.{part_part, part_under, part_above, part_same, holds_at}
 use Rattle.hyperparams.specs.Params.{max_frames}
 use Rattle.counting_tree.specs.declared.IntersectionType.{IntersectionType}
 use Rattle.counting_tree.specs.declared.IntersectionType.TheVariants.{Disjoint, FullyCovered, Intersecting}
@@ -22,10 +22,10 @@ use Rattle.counting_tree.specs.Tree.{by_box, counted}
 use Rattle.counting_tree.specs.Geometry.{Geometry}
 use Rattle.cells_grid.specs.Cells.{members, cells, core, core_members, core_cell, node}
 use Rattle.cells_grid.specs.Lawful.{Lawful}
-use Rattle.cells_grid.specs.CellLaws.{in_member, in_core}
+use Rattle.cells_grid.proofs.CellLaws.{in_member, in_core}
 use Rattle.cells_grid.specs.Arrangement.{cell_at, start_at, Cored}
 use Rattle.cells_grid.specs.Places.{end_in}
-use Rattle.cells_grid.specs.ArrangementLaws.{start_next, start_le, cells_le, cell_places, core_word, cored_over}
+use Rattle.cells_grid.proofs.ArrangementLaws.{start_next, start_le, cells_le, cell_places, core_word, cored_over}
 use Rattle.tree_structure.specs.Encode.{size, encode, TreeAt, encode_length, size_le}
 use Rattle.tree_structure.specs.Work.{max_levels, max_nodes}
 use Rattle.core_cells.specs.Forest.{core_among, path_limit, tree_frames, is_core, is_large, tree_size, tree_words, nodes_to, forest_to, tree_word, Grown}

@@ -6,7 +6,7 @@ use Rattle.std.proofs.Common.{sym, inl, inr, arith, mul-le-mul_right, lt-ltb, le
 use Rattle.lists.specs.Lists.{In}
 use Rattle.lists.specs.Words.{part}
 use Rattle.lists.specs.ListLaws.{true_T, T_or_not, cond_true, cond_false, keep_in, in_keep}
-use Rattle.lists.specs.PartLaws.{part_first}
+use Rattle.lists.proofs.PartLaws.{part_first}
 use Rattle.core_cells.specs.Forest.{core_among}
 use Rattle.core_cells.specs.Nearest.{least_until, out_of_reach}
 

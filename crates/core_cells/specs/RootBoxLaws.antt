@@ -3,7 +3,7 @@ use Rattle.std.specs.Prelude.{◌≡◌, Bool, true, false, List, ℕ, ◌<◌, 
 use Rattle.std.proofs.Common.{sym, ap, ◌∙◌, arith}
 use Rattle.lists.specs.Lists.{In, any, nonzero}
 use Rattle.lists.specs.ListLaws.{true_T, T_true, any_in, any_none}
-use Rattle.lists.specs.PartLaws.{part_same}
+use Rattle.lists.proofs.PartLaws.{part_same}
 use Rattle.hyperparams.specs.declared.ValidParams.{ValidParams}
 use Rattle.hyperparams.specs.Params.{float}
 use Rattle.counting_tree.specs.declared.IntersectionType.{IntersectionType}
@@ -18,7 +18,7 @@ use Rattle.counting_tree.specs.Indexes.{placed_first, centres_length}
 use Rattle.counting_tree.specs.Ready.{geometry_at, Ready}
 use Rattle.cells_grid.specs.Cells.{same_cell, core_members, core_cell, count}
 use Rattle.cells_grid.specs.Lawful.{Lawful}
-use Rattle.cells_grid.specs.CellLaws.{in_core, core_cell_frame, count_path}
+use Rattle.cells_grid.proofs.CellLaws.{in_core, core_cell_frame, count_path}
 use Rattle.cells_grid.specs.Arrangement.{cell_at}
 use Rattle.core_cells.specs.RootBox.{root_box}
 

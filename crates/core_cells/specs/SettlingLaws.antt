@@ -14,10 +14,10 @@ use Rattle.counting_tree.specs.Geometry.{Geometry, frame, N, FarReach}
 use Rattle.counting_tree.specs.Paths.{on_box, reaches}
 use Rattle.counting_tree.specs.Domain.{Counts}
 use Rattle.counting_tree.specs.Ready.{geometry_at, Ready, at_frames}
-use Rattle.counting_tree.specs.Reach.{reaches_far}
+use Rattle.counting_tree.proofs.Reach.{reaches_far}
 use Rattle.cells_grid.specs.Cells.{core, members, core_members}
 use Rattle.cells_grid.specs.Ready.{ready_lawful}
-use Rattle.cells_grid.specs.CellLaws.{count_path}
+use Rattle.cells_grid.proofs.CellLaws.{count_path}
 use Rattle.cells_grid.specs.Arrangement.{cell_at}
 use Rattle.core_cells.specs.Forest.{tree_frames}
 use Rattle.core_cells.specs.ForestLaws.{frames_below}

@@ -18,8 +18,8 @@ use mir.Val.{to_z, of_z}
 use Rattle.lists.specs.Lists.{from, numbers}
 use Rattle.lists.specs.ListLaws.{at_map, length_numbers}
 use Rattle.lists.specs.Words.{column}
-use Rattle.lists.specs.WordLaws.{four_over}
-use Rattle.lists.specs.PartLaws.{part_same}
+use Rattle.lists.proofs.WordLaws.{four_over}
+use Rattle.lists.proofs.PartLaws.{part_same}
 use Rattle.hyperparams.specs.Params.{float}
 use Rattle.counting_tree.specs.Grid.{index, centre, indexes, centres}
 use Rattle.counting_tree.specs.Box.{sum_from, both, corners, farthest}

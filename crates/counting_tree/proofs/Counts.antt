@@ -19,7 +19,7 @@ use denote.Array.{each}
 use denote.Shadow.{shadow}
 use borrow.Kind.Array.{e_s_int}
 use Rattle.lists.specs.Words.{part}
-use Rattle.lists.specs.PartLaws.{part_length}
+use Rattle.lists.proofs.PartLaws.{part_length}
 use Rattle.counting_tree.specs.Frames.{apart}
 use Rattle.counting_tree.specs.Domain.{Count}
 

@@ -12,7 +12,7 @@ use lib.Ieee.{Float, binary64, of_int}
 use mir.Syntax.{w64}
 use mir.Val.{Fits}
 use Rattle.lists.specs.Words.{part}
-use Rattle.lists.specs.PartLaws.{part_same, part_length}
+use Rattle.lists.proofs.PartLaws.{part_same, part_length}
 use Rattle.hyperparams.specs.declared.ValidParams.{ValidParams}
 use Rattle.hyperparams.specs.Params.{float, max_frames}
 use Rattle.counting_tree.specs.declared.Box.{Box}

@@ -9,3 +9,4 @@ pub mod Clear
 pub mod Squares
 pub mod Near
 pub mod Walk
+pub mod Reach

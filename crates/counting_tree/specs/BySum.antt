@@ -4,8 +4,8 @@ use Rattle.std.proofs.Common.{sym, ap, ap₂, ◌∙◌, subst, le_trans, le_of_
 use Rattle.std.proofs.Math.Nat.{le_dest, le_of_mul-le-mul_left}
 use Rattle.std.specs.Float.{binary64}
 use Rattle.std.specs.Float.Ieee.{add, sub, mul, lt, le, unlike}
-use Rattle.ring.specs.Ring.{ringℕ, poly, done, ◌⊖◌}
-use Rattle.ring.specs.Order.{belowℕ, equalℕ, num, slackℕ, ◌⊞◌, ◌⊠◌, nil, diffℕ, ◌⊕◌, ◌⊙◌}
+use Rattle.ring.proofs.Ring.{ringℕ, poly, done, ◌⊖◌}
+use Rattle.ring.proofs.Order.{belowℕ, equalℕ, num, slackℕ, ◌⊞◌, ◌⊠◌, nil, diffℕ, ◌⊕◌, ◌⊙◌}
 use Rattle.ring.specs.Nat.{sq_mono}
 use Rattle.ring.specs.InnerProduct.{squares}
 use Rattle.ieee754.specs.Value.{unit, unit_pos, tiny, unit_tiny, tiny_large, mag, sign, Good, Close, close_twice}

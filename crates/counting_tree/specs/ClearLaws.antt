@@ -8,8 +8,8 @@ use native.Mathlib.Omega.{arith}
 use Rattle.std.proofs.Math.Dec.{T}
 use Rattle.std.specs.Float.Ieee.{binary64, add, sub, mul, lt, le}
 use Rattle.lists.specs.ListLaws.{and_left, and_right, or_cases}
-use Rattle.ring.specs.Ring.{poly, done, ◌⊖◌}
-use Rattle.ring.specs.Order.{belowℕ, num, slackℕ, ◌⊞◌, ◌⊠◌, nil, diffℕ, ◌⊕◌, ◌⊙◌}
+use Rattle.ring.proofs.Ring.{poly, done, ◌⊖◌}
+use Rattle.ring.proofs.Order.{belowℕ, num, slackℕ, ◌⊞◌, ◌⊠◌, nil, diffℕ, ◌⊕◌, ◌⊙◌}
 use Rattle.ring.specs.Nat.{sq_mono, sq_le_back}
 use Rattle.ieee754.specs.Value.{unit, unit_pos, tiny, unit_tiny, tiny_large, mag, sign, Good, Is, Close}
 use Rattle.ieee754.specs.Ops.{plus, minus, plus_pos, minus_pos, near_units, sub_pos, mul_near}

@@ -5,7 +5,8 @@ use native.Mathlib.Omega.{arith, by_contra}
 use Rattle.std.specs.Float.{binary64}
 use Rattle.std.specs.Float.Ieee.{add, sub, lt}
 use Rattle.ring.specs.Nat.{sq_mono}
-use Rattle.ring.specs.InnerProduct.{squares, Tri, none, more, triangle}
+use Rattle.ring.specs.InnerProduct.{squares, Tri, none, more}
+use Rattle.ring.proofs.InnerProductLaws.{triangle}
 use Rattle.ieee754.specs.Value.{unit, tiny, unit_tiny, tiny_large, mag, sign, Good, Is}
 use Rattle.ieee754.specs.Ops.{plus, minus, plus_pos, minus_pos, mag_parts, add_near, sub_near}
 use Rattle.ieee754.specs.Compare.{lt_is}

@@ -5,10 +5,11 @@ use Rattle.std.proofs.Math.Nat.{le_of_mul-le-mul_left}
 use native.Mathlib.Omega.{arith, by_contra}
 use Rattle.std.specs.Float.{binary64}
 use Rattle.std.specs.Float.Ieee.{round, add, sub, mul}
-use Rattle.ring.specs.Ring.{ringℕ, poly, done}
-use Rattle.ring.specs.Order.{belowℕ, equalℕ, num, slackℕ, ◌⊞◌, ◌⊠◌, nil, diffℕ, ◌⊙◌}
+use Rattle.ring.proofs.Ring.{ringℕ, poly, done}
+use Rattle.ring.proofs.Order.{belowℕ, equalℕ, num, slackℕ, ◌⊞◌, ◌⊠◌, nil, diffℕ, ◌⊙◌}
 use Rattle.ring.specs.Nat.{sq_le_back, lt_or_ge}
-use Rattle.ring.specs.InnerProduct.{squares, Tri, none, more, triangle}
+use Rattle.ring.specs.InnerProduct.{squares, Tri, none, more}
+use Rattle.ring.proofs.InnerProductLaws.{triangle}
 use Rattle.ieee754.specs.Value.{unit, unit_pos, tiny, unit_tiny, tiny_large, mag, sign, Good, Close, close_twice}
 use Rattle.ieee754.specs.Ops.{plus, minus, SumOf, above, below, near_units, add_pos, sub_of, mul_near}
 use Rattle.ieee754.specs.Root.{root}

@@ -12,8 +12,8 @@ use Rattle.std.proofs.Math.Dec.{T, leb→le, ltb→lt, nltb→le, nleb→lt}
 use Rattle.std.specs.Float.{nan, inf, fin}
 use Rattle.std.specs.Float.Ieee.{binary64, up, down, add, sub, mul, div, neg, lt, le, of_int, unlike, round}
 use Rattle.std.specs.Float.Ieee.Fits.{down_pos, and_l, and_r}
-use Rattle.ring.specs.Ring.{poly, done}
-use Rattle.ring.specs.Order.{belowℕ, num, slackℕ, ◌⊞◌, ◌⊠◌, nil, diffℕ}
+use Rattle.ring.proofs.Ring.{poly, done}
+use Rattle.ring.proofs.Order.{belowℕ, num, slackℕ, ◌⊞◌, ◌⊠◌, nil, diffℕ}
 use Rattle.ieee754.specs.Value.{unit, unit_pos, tiny, unit_tiny, tiny_large, mag, sign, Good, Is, Close, close_twice, Rounded}
 use Rattle.ieee754.specs.Ops.{plus, minus, plus_pos, minus_pos, plus_neg, minus_neg, neg_good, neg_parts, near_units, mul_near, div_near, sub_pos, add_neg}
 use Rattle.ieee754.specs.Compare.{lt_is, le_is}

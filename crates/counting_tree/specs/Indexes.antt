@@ -3,7 +3,7 @@ use Rattle.std.specs.Prelude.{◌≡◌, Bool, List, ℕ, ◌+◌, ◌≤◌, �
 use Rattle.std.proofs.Common.{sym, subst, ◌∙◌, add-one, arith}
 use Rattle.std.proofs.Math.Path.{ap}
 use Rattle.std.proofs.lemmas.List.{length-map}
-use Rattle.lists.specs.PartLaws.{part_same}
+use Rattle.lists.proofs.PartLaws.{part_same}
 use Rattle.hyperparams.specs.declared.ValidParams.{ValidParams}
 use Rattle.hyperparams.specs.Params.{levels}
 use Rattle.counting_tree.specs.Frames.{Frame, frames_in}

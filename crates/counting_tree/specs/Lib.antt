@@ -25,7 +25,6 @@ pub mod Domain
 pub mod Ready
 pub mod Indexes
 pub mod Sound
-pub mod Reach
 pub mod BySum
 pub mod Settled
 pub mod SettledLaws

@@ -3,10 +3,11 @@ use Rattle.std.specs.Prelude.{◌≡◌, refl, ◌⊎◌, List, [], ◌∷◌, �
 use Rattle.std.proofs.Common.{◌∙◌, inl, inr, le_trans, le_of_eq, lt_of_le_of_lt, mul-le-mul_left, mul-le-mul_right, le_of_lt, add_comm, add-one}
 use Rattle.std.proofs.Math.Nat.{le_dest, le_of_mul-le-mul_left}
 use native.Mathlib.Omega.{arith, by_contra}
-use Rattle.ring.specs.Ring.{ringℕ, poly, done, ◌⊖◌}
-use Rattle.ring.specs.Order.{belowℕ, num, slackℕ, ◌⊞◌, ◌⊠◌, nil, diffℕ, ◌⊕◌, ◌⊙◌}
+use Rattle.ring.proofs.Ring.{ringℕ, poly, done, ◌⊖◌}
+use Rattle.ring.proofs.Order.{belowℕ, num, slackℕ, ◌⊞◌, ◌⊠◌, nil, diffℕ, ◌⊕◌, ◌⊙◌}
 use Rattle.ring.specs.Nat.{sq_mono}
-use Rattle.ring.specs.InnerProduct.{squares, Tri, none, more, triangle}
+use Rattle.ring.specs.InnerProduct.{squares, Tri, none, more}
+use Rattle.ring.proofs.InnerProductLaws.{triangle}
 use Rattle.ieee754.specs.Value.{unit, tiny, unit_tiny, tiny_large, mag}
 use Rattle.ieee754.specs.Ops.{plus, minus}
 use Rattle.counting_tree.specs.Box.{distance}

@@ -6,8 +6,8 @@ use native.Mathlib.Omega.{arith, by_contra}
 use Rattle.std.specs.Float.{binary64}
 use Rattle.std.specs.Float.Ieee.{add, sub, lt}
 use Rattle.lists.specs.Lists.{total}
-use Rattle.ring.specs.Ring.{poly, done}
-use Rattle.ring.specs.Order.{belowℕ, num, slackℕ, ◌⊞◌, ◌⊠◌}
+use Rattle.ring.proofs.Ring.{poly, done}
+use Rattle.ring.proofs.Order.{belowℕ, num, slackℕ, ◌⊞◌, ◌⊠◌}
 use Rattle.ring.specs.Nat.{sq_le_back}
 use Rattle.ring.specs.InnerProduct.{squares}
 use Rattle.ieee754.specs.Value.{unit, tiny, unit_tiny, tiny_large, mag, sign, Good, Is}

@@ -6,7 +6,7 @@ use mathlib.Core.List.{List, [], ◌∷◌}
 use Prim.Native.Nat.{ℕ, zero, suc}
 use Rattle.lists.specs.Lists.{any, head_or, nonzero, total, groups, In}
 use Rattle.lists.specs.ListLaws.{true_T, both_ways, any_in, in_any, any_none, any_shuffle, in_nonzero, some_in}
-use Rattle.lists.specs.GroupLaws.{any_groups, group_alike, groups_length}
+use Rattle.lists.proofs.GroupLaws.{any_groups, group_alike, groups_length}
 use Rattle.counting_tree.specs.Tree.{by_box, or_else, first_of, counted}
 use Rattle.counting_tree.specs.declared.IntersectionType.{IntersectionType}
 use Rattle.counting_tree.specs.declared.IntersectionType.TheVariants.{Disjoint, FullyCovered, Intersecting}

@@ -5,8 +5,8 @@ use Rattle.std.proofs.Math.Nat.{pow-succ', le_of_mul-le-mul_left}
 use native.Mathlib.Omega.{arith, by_contra}
 use Rattle.std.specs.Float.Ieee.{binary64, mul, div, of_int, unlike}
 use Rattle.std.specs.Float.Ieee.Fits.{mul-fits}
-use Rattle.ring.specs.Ring.{ringℕ, poly, done}
-use Rattle.ring.specs.Order.{belowℕ, equalℕ, num, slackℕ, ◌⊞◌, ◌⊠◌, nil, diffℕ, ◌⊕◌, ◌⊙◌}
+use Rattle.ring.proofs.Ring.{ringℕ, poly, done}
+use Rattle.ring.proofs.Order.{belowℕ, equalℕ, num, slackℕ, ◌⊞◌, ◌⊠◌, nil, diffℕ, ◌⊕◌, ◌⊙◌}
 use Rattle.ieee754.specs.Value.{unit, unit_pos, tiny, unit_tiny, tiny_large, speck, tiny_speck, speck_large, mag, sign, Good, Is, Close, close_twice, Rounded}
 use Rattle.ieee754.specs.Ops.{mul_near}
 use Rattle.ieee754.specs.Exact.{Rep, div_exact, of_int_pos, fits_good, good_finite}

@@ -8,8 +8,8 @@ use Rattle.std.specs.Float.Ieee.{up, down, add, eq, round, unlike}
 use Rattle.std.specs.Float.Ieee.Exact.{HasValue}
 use Rattle.std.specs.Float.Ieee.Fits.{down_pos}
 use Rattle.lists.specs.ListLaws.{and_left, and_right}
-use Rattle.ring.specs.Ring.{ringℕ, poly, done}
-use Rattle.ring.specs.Order.{belowℕ, equalℕ, num, slackℕ, ◌⊞◌, ◌⊠◌, diffℕ, ◌⊕◌, ◌⊙◌}
+use Rattle.ring.proofs.Ring.{ringℕ, poly, done}
+use Rattle.ring.proofs.Order.{belowℕ, equalℕ, num, slackℕ, ◌⊞◌, ◌⊠◌, diffℕ, ◌⊕◌, ◌⊙◌}
 use Rattle.ieee754.specs.Value.{unit, unit_pos, mag, sign, Good, Is, of_value}
 use Rattle.ieee754.specs.Ops.{add_pos}
 use Rattle.ieee754.specs.Exact.{Rep, whole_value, round_rep, mul_exact, div_exact, of_int_pos}

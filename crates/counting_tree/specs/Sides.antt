@@ -7,8 +7,8 @@ use Rattle.std.proofs.Math.Nat.{one-mul, le-suc, le_of_mul-le-mul_left}
 use native.Mathlib.Omega.{arith}
 use Rattle.std.specs.Float.Ieee.{binary64, unlike}
 use Rattle.std.specs.Float.Ieee.Fits.{div-fits}
-use Rattle.ring.specs.Ring.{ringℕ, poly, done}
-use Rattle.ring.specs.Order.{belowℕ, num, slackℕ, ◌⊞◌, ◌⊠◌, nil, diffℕ, ◌⊕◌, ◌⊙◌}
+use Rattle.ring.proofs.Ring.{ringℕ, poly, done}
+use Rattle.ring.proofs.Order.{belowℕ, num, slackℕ, ◌⊞◌, ◌⊠◌, nil, diffℕ, ◌⊕◌, ◌⊙◌}
 use Rattle.ieee754.specs.Value.{unit, unit_pos, tiny, unit_tiny, tiny_large, speck, mag, sign, Good, Is, Rounded}
 use Rattle.ieee754.specs.Ops.{div_near}
 use Rattle.ieee754.specs.Exact.{Rep, rep_whole, fits_good, good_finite}

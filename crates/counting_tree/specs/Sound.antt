@@ -6,8 +6,8 @@ use mathlib.Core.List.{List, [], ◌∷◌, map}
 use Rattle.std.proofs.Math.Nat.{pow-succ', suc_inj}
 use Rattle.std.proofs.Math.Dec.{T, eqb_refl}
 use Rattle.lists.specs.ListLaws.{and_left, and_right, and_both}
-use Rattle.ring.specs.Ring.{ringℕ, pow_mul, poly, done, ◌⊖◌}
-use Rattle.ring.specs.Order.{belowℕ, equalℕ, num, slackℕ, ◌⊞◌, ◌⊠◌, nil, diffℕ, ◌⊕◌, ◌⊙◌}
+use Rattle.ring.proofs.Ring.{ringℕ, pow_mul, poly, done, ◌⊖◌}
+use Rattle.ring.proofs.Order.{belowℕ, equalℕ, num, slackℕ, ◌⊞◌, ◌⊠◌, nil, diffℕ, ◌⊕◌, ◌⊙◌}
 use Rattle.ieee754.specs.Value.{unit, mag}
 use Rattle.hyperparams.specs.declared.ValidParams.{ValidParams}
 use Rattle.hyperparams.specs.Params.{levels}

@@ -4,10 +4,11 @@ use Rattle.std.proofs.Common.{sym, ap, subst, le_trans, le_of_eq, le_refl, lt_of
 use Rattle.std.proofs.Math.Arith.{le→nltb}
 use Rattle.std.specs.Float.{binary64}
 use Rattle.std.specs.Float.Ieee.{add, sub, lt, le}
-use Rattle.ring.specs.Ring.{ringℕ, poly, done}
-use Rattle.ring.specs.Order.{equalℕ, diffℕ, ◌⊙◌}
+use Rattle.ring.proofs.Ring.{ringℕ, poly, done}
+use Rattle.ring.proofs.Order.{equalℕ, diffℕ, ◌⊙◌}
 use Rattle.ring.specs.Nat.{sq_mono}
-use Rattle.ring.specs.InnerProduct.{squares, Tri, none, more, triangle}
+use Rattle.ring.specs.InnerProduct.{squares, Tri, none, more}
+use Rattle.ring.proofs.InnerProductLaws.{triangle}
 use Rattle.ieee754.specs.Value.{unit, tiny, unit_tiny, tiny_large, mag, sign, Good}
 use Rattle.ieee754.specs.Ops.{plus, minus, plus_pos, minus_pos, Approx, SumOf, add_of, sub_of, sum_approx}
 use Rattle.ieee754.specs.Compare.{lt_is, le_is}

@@ -2,7 +2,8 @@
 use Rattle.std.specs.Prelude.{◌≡◌, refl, List, [], ◌∷◌, ℕ, ◌+◌, ◌*◌, ◌≤◌, ℤ, pos, negsuc, length}
 use Rattle.std.proofs.Common.{ap, ap₂, arith}
 use Rattle.std.proofs.Math.Nat.{suc_inj}
-use Rattle.ring.specs.InnerProduct.{squares, Tri, none, more, triangle}
+use Rattle.ring.specs.InnerProduct.{squares, Tri, none, more}
+use Rattle.ring.proofs.InnerProductLaws.{triangle}
 use Rattle.counting_tree.specs.Frames.{Frame, apart, squared}
 
 apart_self : (x : ℤ) → apart x x ≡ 0

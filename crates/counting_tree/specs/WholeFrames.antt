@@ -5,7 +5,7 @@ use Rattle.std.proofs.Math.Nat.{mul-sub}
 use Rattle.std.proofs.lemmas.List.{length-map}
 use Rattle.std.specs.Float.{binary64}
 use Rattle.std.specs.Float.Ieee.{add, sub, lt, le, of_int}
-use Rattle.ring.specs.Ring.{ringℕ, poly, done}
+use Rattle.ring.proofs.Ring.{ringℕ, poly, done}
 use Rattle.ring.specs.InnerProduct.{squares}
 use Rattle.ieee754.specs.Value.{unit, unit_pos, tiny, unit_tiny, mag, sign}
 use Rattle.ieee754.specs.Ops.{plus, minus, plus_pos, minus_pos, plus_neg, minus_neg, mag_parts}

@@ -8,8 +8,8 @@ use lib.ListN.{length, get_or, set, length-append}
 use Rattle.lists.specs.Lists.{concat}
 use Rattle.lists.specs.Words.{over, column}
 use Rattle.lists.specs.CountLaws.{concat_append}
-use Rattle.lists.specs.PartLaws.{column_snoc}
-use Rattle.lists.specs.WordLaws.{over_nil, over_length, over_next, over_snoc, set_over}
+use Rattle.lists.proofs.PartLaws.{column_snoc}
+use Rattle.lists.proofs.WordLaws.{over_nil, over_length, over_next, over_snoc, set_over}
 use Rattle.appx_dbscan.specs.declared.Outcome.{Outcome}
 use Rattle.appx_dbscan.specs.declared.Outcome.TheVariants.{Labelled, Refused}
 use Rattle.desk.specs.Desk.{hex2, hex4, frame_line, frame_lines, count_line, refusal_line, lines_of, most_frames, most_bytes}

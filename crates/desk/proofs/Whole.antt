@@ -9,7 +9,7 @@ use lib.IntN.{ℤ}
 use lib.ListN.{length, take, replicate, length-replicate}
 use Rattle.lists.specs.Words.{over, column}
 use Rattle.lists.specs.ListLaws.{length_numbers}
-use Rattle.lists.specs.PartLaws.{part_same}
+use Rattle.lists.proofs.PartLaws.{part_same}
 use Rattle.hyperparams.specs.declared.Params.{Params}
 use Rattle.hyperparams.specs.declared.Checked.{Checked}
 use Rattle.hyperparams.specs.Params.{checked_of}

@@ -7,9 +7,9 @@ use lib.IntN.{ℤ}
 use lib.ListN.{length, replicate, length-replicate}
 use Rattle.lists.specs.Words.{over, column, Clear}
 use Rattle.lists.specs.ListLaws.{length_numbers}
-use Rattle.lists.specs.WordLaws.{over_length}
-use Rattle.lists.specs.PartLaws.{clear_within}
-use Rattle.lists.specs.Within.{Within, within_over, within_more, within_clear, made_clear}
+use Rattle.lists.proofs.WordLaws.{over_length}
+use Rattle.lists.proofs.PartLaws.{clear_within}
+use Rattle.lists.proofs.Within.{Within, within_over, within_more, within_clear, made_clear}
 use Rattle.hyperparams.specs.Params.{work_words, max_frames, checked_of}
 use Rattle.hyperparams.specs.Accepted.{Accepted, accepted}
 use Rattle.hyperparams.specs.declared.Params.{Params}
@@ -21,7 +21,7 @@ use Rattle.counting_tree.specs.Ready.{geometry_at, Ready, at_frames, ready_of}
 use Rattle.cells_grid.specs.Cells.{cells}
 use Rattle.cells_grid.specs.Places.{populated}
 use Rattle.cells_grid.specs.Arrangement.{core_bit, Arranged, Cored}
-use Rattle.cells_grid.specs.ArrangementLaws.{words_count, cored, populated_arranged, populated_within}
+use Rattle.cells_grid.proofs.ArrangementLaws.{words_count, cored, populated_arranged, populated_within}
 use Rattle.cells_grid.specs.Ready.{ready_lawful}
 use Rattle.core_cells.specs.Forest.{tree_word, forest_to}
 use Rattle.core_cells.specs.ForestLaws.{grown}

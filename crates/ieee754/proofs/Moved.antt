@@ -4,7 +4,7 @@ use native.Mathlib.Nat.{mul-mul-mul_comm}
 use lib.Count.{count_leading_zeros, leading_top}
 use lib.Ieee.{Float, binary64, to_bits, odd}
 use lib.Ieee.Exact.{odd_sign}
-use Rattle.ring.specs.Ring.{ringℕ, poly, done}
+use Rattle.ring.proofs.Ring.{ringℕ, poly, done}
 use Rattle.ieee754.specs.Steps.{Root, root_from, root_below}
 use Rattle.ieee754.specs.Value.{unit, mag, Is, of_value}
 use Rattle.ieee754.specs.Root.{root}

@@ -1,8 +1,8 @@
 -- A step to more digits of a whole root, for any base: one division, and at most one correction. What `more_digits` and `all_digits` need.
 use Rattle.std.proofs.Common.{◌≡◌, ℕ, zero, suc, ◌+◌, ◌-◌, ◌*◌, ◌/◌, ◌%◌, ◌^◌, ◌<◌, ◌≤◌, [], ◌∷◌, pos, sym, ap, ◌∙◌, subst, le_trans, mul-le-mul_right, mod-lt, mul-le-mul, lt_of_mul-lt-mul_right, div-add-mod', arith}
 use native.Mathlib.Nat.{div-div-eq-div-mul}
-use Rattle.ring.specs.Ring.{ringℕ, poly, done}
-use Rattle.ring.specs.Order.{equalℕ, diffℕ, ◌⊕◌, ◌⊙◌}
+use Rattle.ring.proofs.Ring.{ringℕ, poly, done}
+use Rattle.ring.proofs.Order.{equalℕ, diffℕ, ◌⊕◌, ◌⊙◌}
 use Rattle.ieee754.specs.Steps.{Root, Room, root_from, root_below}
 
 -- ---- h is s² and the rest r; r b + a divided by 2 s is q, and u is left

@@ -1,7 +1,7 @@
 -- The bits of a value of q * 2 ^ k units, q of 53 digits.
 use Rattle.std.proofs.Common.{◌≡◌, ℕ, ◌+◌, ◌-◌, ◌*◌, ◌/◌, ◌^◌, ◌<◌, ◌≤◌, Bool, false, cond, ◌⊎◌, [], ◌∷◌, sym, ap, ◌∙◌, subst, ap₂, inl, inr, mul-le-mul_right, eq-or-lt_of_le, mul-lt-mul_of_pos_right, zero-add, mul-div_cancel, lit<, lit≤, pow_pos}
 use lib.Ieee.{Float, nan, inf, fin, binary64, size, to_bits}
-use Rattle.ring.specs.Ring.{ringℕ, poly, done}
+use Rattle.ring.proofs.Ring.{ringℕ, poly, done}
 use Rattle.ieee754.specs.Value.{unit, mag, sign, Good, Is}
 use Rattle.ieee754.specs.RootDigits.{dropped}
 

@@ -2,8 +2,8 @@
 use Rattle.std.specs.Prelude.{◌≡◌, ℕ, ◌+◌, ◌-◌, ◌*◌, ◌^◌, ◌≤◌, List, [], ◌∷◌, pos, Float}
 use Rattle.std.proofs.Common.{sym, le_trans, le_of_eq, mul-pos, add_assoc, arith, lit<}
 use Rattle.std.proofs.Math.Nat.{le_of_mul-le-mul_left}
-use Rattle.ring.specs.Ring.{poly, done}
-use Rattle.ring.specs.Order.{belowℕ, num, slackℕ, ◌⊞◌, ◌⊠◌, nil, diffℕ, ◌⊕◌, ◌⊙◌}
+use Rattle.ring.proofs.Ring.{poly, done}
+use Rattle.ring.proofs.Order.{belowℕ, num, slackℕ, ◌⊞◌, ◌⊠◌, nil, diffℕ, ◌⊕◌, ◌⊙◌}
 use Rattle.ieee754.specs.Value.{unit, unit_pos, tiny, unit_tiny, tiny_large, Close}
 use Rattle.ieee754.specs.Ops.{plus, minus, Approx}
 

@@ -8,8 +8,8 @@ use Rattle.std.specs.Float.Ieee.Exact.{HasValue, round_exact}
 use Rattle.std.specs.Float.Ieee.Back.{round_whole}
 use Rattle.std.specs.Float.Ieee.Order.{round_mono}
 use Rattle.std.specs.Float.Ieee.Scale.{round_same, finite}
-use Rattle.ring.specs.Ring.{ringℕ, poly, done}
-use Rattle.ring.specs.Order.{equalℕ, diffℕ, ◌⊙◌}
+use Rattle.ring.proofs.Ring.{ringℕ, poly, done}
+use Rattle.ring.proofs.Order.{equalℕ, diffℕ, ◌⊙◌}
 use Rattle.ring.specs.Nat.{exponent_le, align}
 use Rattle.ieee754.specs.Value.{unit, unit_pos, mag, sign, Good, Is, of_value, round_near}
 use Rattle.ieee754.specs.Ops.{plus, minus, plus_pos, minus_pos, plus_neg, SumOf, above, below, near_units, mul_of, div_of}

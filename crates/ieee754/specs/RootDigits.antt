@@ -10,8 +10,8 @@ use Rattle.std.specs.Float.Ieee.Digits.{size-lt, size-le}
 use Rattle.std.specs.Float.Ieee.Fits.{up_pos, down_pos}
 use Rattle.std.specs.Float.Ieee.Order.{drop, kept}
 use Rattle.std.specs.Float.Ieee.Nearest.{closest}
-use Rattle.ring.specs.Ring.{ringℕ, poly, done}
-use Rattle.ring.specs.Order.{belowℕ, equalℕ, num, slackℕ, ◌⊞◌, ◌⊠◌, nil, diffℕ, ◌⊙◌}
+use Rattle.ring.proofs.Ring.{ringℕ, poly, done}
+use Rattle.ring.proofs.Order.{belowℕ, equalℕ, num, slackℕ, ◌⊞◌, ◌⊠◌, nil, diffℕ, ◌⊙◌}
 use Rattle.ring.specs.Nat.{sq_mono, sq_lt_back, exponent_le, align}
 use Rattle.ieee754.specs.Near.{closest_half}
 use Rattle.ieee754.specs.Value.{unit, unit_pos, mag, sign, Good, Is, round_kept}

@@ -8,8 +8,8 @@ use Rattle.std.specs.Float.Ieee.{size, round, up, down}
 use Rattle.std.specs.Float.Ieee.Digits.{size-lt}
 use Rattle.std.specs.Float.Ieee.Fits.{up_pos, down_pos}
 use Rattle.ieee754.specs.Steps.{Root}
-use Rattle.ring.specs.Ring.{pow_mul, poly, done}
-use Rattle.ring.specs.Order.{belowℕ, num, slackℕ, ◌⊞◌, ◌⊠◌}
+use Rattle.ring.proofs.Ring.{pow_mul, poly, done}
+use Rattle.ring.proofs.Order.{belowℕ, num, slackℕ, ◌⊞◌, ◌⊠◌}
 use Rattle.ring.specs.Nat.{sq_le_back, sq_lt_back}
 use Rattle.ieee754.specs.Value.{unit, unit_pos, mag, sign, Good, Rounded, round_near}
 use Rattle.ieee754.specs.Root.{isqrt_at, isqrt, root_of, root}

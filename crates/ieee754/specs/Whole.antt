@@ -5,8 +5,8 @@ use Rattle.std.proofs.Math.Nat.{eq_of_mul-eq-mul_right}
 use Rattle.std.specs.Float.{nan, inf, fin, binary64}
 use Rattle.std.specs.Float.Ieee.{round, add, mul, unlike, up, down}
 use Rattle.std.specs.Float.Ieee.Fits.{up_pos, down_pos}
-use Rattle.ring.specs.Ring.{ringℕ, poly, done}
-use Rattle.ring.specs.Order.{belowℕ, num, slackℕ, ◌⊞◌, ◌⊠◌, nil, diffℕ, ◌⊙◌}
+use Rattle.ring.proofs.Ring.{ringℕ, poly, done}
+use Rattle.ring.proofs.Order.{belowℕ, num, slackℕ, ◌⊞◌, ◌⊠◌, nil, diffℕ, ◌⊙◌}
 use Rattle.ring.specs.Nat.{sq_le_back, sq_lt_back}
 use Rattle.ieee754.specs.Value.{unit, unit_pos, tiny, unit_tiny, tiny_large, mag, sign, Good, Is}
 use Rattle.ieee754.specs.Ops.{add_pos}

@@ -7,8 +7,8 @@ use native.Mathlib.Omega.{arith}
 use lib.ListN.{length, get_or, replicate}
 use Rattle.lists.specs.Words.{over, column}
 use Rattle.lists.specs.ListLaws.{length_numbers}
-use Rattle.lists.specs.PartLaws.{get_under, get_above, column_replicate}
-use Rattle.lists.specs.LoopLaws.{Fill, fill_end}
+use Rattle.lists.proofs.PartLaws.{get_under, get_above, column_replicate}
+use Rattle.lists.proofs.LoopLaws.{Fill, fill_end}
 
 -- what the next turn reads is still the word that stood there at first
 pub copy_read : {w₀ v : List ℕ} {from to m i : ℕ} → (to ≤ from) ⊎ (from + m ≤ to) → Fill (λ j. get_or w₀ (from + j) 0) w₀ to m v i → i < m → get_or v (from + i) 0 ≡ get_or w₀ (from + i) 0

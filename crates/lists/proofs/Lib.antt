@@ -1,2 +1,9 @@
 pub mod Copying
 pub mod Sort
+pub mod WordLaws
+pub mod GroupLaws
+pub mod PartLaws
+pub mod Within
+pub mod LoopLaws
+pub mod BucketLaws
+pub mod SortLaws

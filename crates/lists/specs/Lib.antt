@@ -3,14 +3,7 @@ pub mod Words
 pub mod ListLaws
 pub mod CountLaws
 pub mod OrderLaws
-pub mod GroupLaws
-pub mod WordLaws
-pub mod PartLaws
-pub mod Within
-pub mod LoopLaws
 pub mod Chains
 pub mod PermLaws
 pub mod Buckets
-pub mod BucketLaws
 pub mod Sorting
-pub mod SortLaws

@@ -1,2 +1,2 @@
-// Laws only, in specs/: arithmetic over ℤ and ℕ by computing with polynomials, orders by certificates, powers of two, absolute values.
+// Laws only, in specs/ and proofs/: arithmetic over ℤ and ℕ by computing with polynomials, orders by certificates, powers of two, absolute values.
 #![tactic(auto)]

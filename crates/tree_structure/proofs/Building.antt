@@ -10,9 +10,9 @@ use Rattle.lists.specs.Words.{over, part, Clear}
 use Rattle.lists.specs.ListLaws.{head_at}
 use Rattle.lists.specs.CountLaws.{parts_length}
 use Rattle.lists.specs.OrderLaws.{lose_below}
-use Rattle.lists.specs.GroupLaws.{groups_nil, groups_cons, group_below}
-use Rattle.lists.specs.WordLaws.{over_length, over_nil, over_self, over_front, over_back, over_next, over_before, over_apart, over_cons}
-use Rattle.lists.specs.PartLaws.{part_length, part_at, part_first, part_under, part_front, part_back, clear_before, clear_after}
+use Rattle.lists.proofs.GroupLaws.{groups_nil, groups_cons, group_below}
+use Rattle.lists.proofs.WordLaws.{over_length, over_nil, over_self, over_front, over_back, over_next, over_before, over_apart, over_cons}
+use Rattle.lists.proofs.PartLaws.{part_length, part_at, part_first, part_under, part_front, part_back, clear_before, clear_after}
 use Rattle.tree_structure.specs.Encode.{Same, size, encode, encode_length, trees_length}
 use Rattle.tree_structure.specs.Work.{max_nodes, arrange, group_nodes, group_frames, group_words, Room, NodeRoom, GroupsRoom, Built, BuiltNode, BuiltGroups}
 use Rattle.tree_structure.proofs.Levels.{last, inner, size_pos, arrange_length, frames_length}

@@ -6,8 +6,8 @@ use native.Mathlib.Omega.{arith}
 use native.Mathlib.Nat.{mul-le-mul}
 use lib.ListN.{length, replicate, length-replicate}
 use Rattle.lists.specs.Words.{over, part}
-use Rattle.lists.specs.WordLaws.{over_length, over_again, over_apart}
-use Rattle.lists.specs.PartLaws.{part_length, part_same, clear_over, clear_after}
+use Rattle.lists.proofs.WordLaws.{over_length, over_again, over_apart}
+use Rattle.lists.proofs.PartLaws.{part_length, part_same, clear_over, clear_after}
 use Rattle.hyperparams.specs.Params.{max_frames}
 use Rattle.tree_structure.specs.Encode.{Same, size, encode, encode_length, size_le}
 use Rattle.tree_structure.specs.Work.{max_levels, max_nodes, arrange, NodeRoom, BuiltNode, CanBuild}

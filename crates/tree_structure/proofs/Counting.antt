@@ -11,8 +11,8 @@ use lib.Seq.{take-take, take-append_seam, drop-append_seam}
 use Rattle.lists.specs.Lists.{head_or, concat, groups}
 use Rattle.lists.specs.Words.{part}
 use Rattle.lists.specs.ListLaws.{head_in, at_in}
-use Rattle.lists.specs.GroupLaws.{group_some, group_below}
-use Rattle.lists.specs.PartLaws.{part_at, part_add}
+use Rattle.lists.proofs.GroupLaws.{group_some, group_below}
+use Rattle.lists.proofs.PartLaws.{part_at, part_add}
 use Rattle.counting_tree.specs.Tree.{or_else, first_of, counted}
 use Rattle.counting_tree.specs.declared.IntersectionType.{IntersectionType}
 use Rattle.counting_tree.specs.declared.IntersectionType.TheVariants.{Disjoint, FullyCovered, Intersecting}

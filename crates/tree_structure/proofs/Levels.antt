@@ -8,7 +8,7 @@ use lib.IntN.{ℤ}
 use lib.ListN.{length}
 use Rattle.lists.specs.Lists.{head_or, concat, groups}
 use Rattle.lists.specs.CountLaws.{total_same, length_concat}
-use Rattle.lists.specs.GroupLaws.{groups_length}
+use Rattle.lists.proofs.GroupLaws.{groups_length}
 use Rattle.hyperparams.specs.declared.ValidParams.{ValidParams}
 use Rattle.hyperparams.specs.Params.{levels}
 use Rattle.counting_tree.specs.Ready.{Ready}

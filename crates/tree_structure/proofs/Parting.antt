@@ -8,8 +8,8 @@ use lib.ListN.{length, get_or, set, replicate, length-append, length-replicate}
 use Rattle.lists.specs.Lists.{keep, lose, Below}
 use Rattle.lists.specs.Words.{over, part, Clear}
 use Rattle.lists.specs.CountLaws.{keep_append, lose_append, parts_length}
-use Rattle.lists.specs.WordLaws.{over_length, over_nil, over_snoc, over_again, over_next, over_apart}
-use Rattle.lists.specs.PartLaws.{part_length, part_below, part_snoc, part_same, get_under, get_above, set_under, clear_over, clear_after}
+use Rattle.lists.proofs.WordLaws.{over_length, over_nil, over_snoc, over_again, over_next, over_apart}
+use Rattle.lists.proofs.PartLaws.{part_length, part_below, part_snoc, part_same, get_under, get_above, set_under, clear_over, clear_after}
 
 -- of the first i of the m frames, those that pass f stand from `from` on and the others from `scratch` on
 pub record Spread (f : ℕ → Bool) (w₀ : List ℕ) (scratch from m : ℕ) (w : List ℕ) (kept lost i : ℕ) : Type 0 where

@@ -11,7 +11,7 @@ use Rattle.std.proofs.Math.ListN.{length}
 use Rattle.lists.specs.Lists.{head_or, total, concat, In, Below, groups}
 use Rattle.lists.specs.Words.{part}
 use Rattle.lists.specs.CountLaws.{total_same, total_times, total_le, length_concat}
-use Rattle.lists.specs.GroupLaws.{groups_length, group_some}
+use Rattle.lists.proofs.GroupLaws.{groups_length, group_some}
 use Rattle.tree_structure.specs.declared.Counted.{Counted}
 
 abbrev pub Same : Type 0

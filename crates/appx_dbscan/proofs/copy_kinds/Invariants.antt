@@ -3,8 +3,8 @@ use mathlib.Core.Path.{refl}
 use Prim.Native.Nat.{◌+◌, ◌-◌, ◌*◌}
 use native.Mathlib.Omega.{arith}
 use lib.ListN.{get_or}
-use Rattle.lists.specs.PartLaws.{part_below}
-use Rattle.lists.specs.LoopLaws.{Fill, fill_start, fill_length, fill_step, fill_part}
+use Rattle.lists.proofs.PartLaws.{part_below}
+use Rattle.lists.proofs.LoopLaws.{Fill, fill_start, fill_length, fill_step, fill_part}
 use Rattle.appx_dbscan.proofs.copy_kinds.Given as goal
 
 abbrev pub invariant-loop-i : goal.invariant-loop-i

@@ -2,7 +2,7 @@
 use Prim.Native.Nat.{◌*◌}
 use native.Mathlib.Omega.{arith}
 use borrow.Author.Rules.{rules}
-use Rattle.lists.specs.PartLaws.{clear_within}
+use Rattle.lists.proofs.PartLaws.{clear_within}
 use Rattle.hyperparams.specs.Params.{levels}
 use Rattle.core_cells.specs.ForestLaws.{limit_least}
 use Rattle.appx_dbscan.proofs.Trees.{grew_scratch, grew_grown, rebuilt, built_clear, built_grown, written}

@@ -3,7 +3,7 @@ use mathlib.Core.Path.{sym, ap, ◌∙◌}
 use Prim.Native.Nat.{ℕ, ◌+◌, ◌%◌}
 use native.Mathlib.Nat.{mod-lt, mod-eq_of_lt}
 use native.Mathlib.Omega.{arith}
-use Rattle.lists.specs.BucketLaws.{bucket_below}
+use Rattle.lists.proofs.BucketLaws.{bucket_below}
 use Rattle.blocks.specs.Blocks.{bucket_at}
 use borrow.Author.Rules.{rules}
 use Rattle.blocks.proofs.bucket.Goals as goal

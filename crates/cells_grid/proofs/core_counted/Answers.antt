@@ -1,7 +1,7 @@
 -- A frame is core if its cell is dense, else by the count of its neighbours and itself.
 use mathlib.Core.Path.{◌∙◌}
 use native.Mathlib.Omega.{arith}
-use Rattle.cells_grid.specs.PairLaws.{others_few}
+use Rattle.cells_grid.proofs.PairLaws.{others_few}
 use Rattle.cells_grid.proofs.Core.{core_dense, counted_yes, counted_no}
 use borrow.Author.Rules.{rules}
 use Rattle.cells_grid.proofs.core_counted.Goals as goal

@@ -1,7 +1,7 @@
 use mathlib.Core.Path.{refl}
 use Prim.Native.Nat.{◌-◌, ◌*◌}
 use native.Mathlib.Omega.{arith}
-use Rattle.lists.specs.LoopLaws.{Fill, fill_step, fill_length, fill_end}
+use Rattle.lists.proofs.LoopLaws.{Fill, fill_step, fill_length, fill_end}
 use Rattle.counting_tree.specs.Ready.{geometry_at}
 use Rattle.cells_grid.specs.Arrangement.{core_bit}
 use Rattle.cells_grid.proofs.Core.{bits_start, bits_laid, bits_arranged}

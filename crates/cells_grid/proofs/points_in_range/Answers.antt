@@ -2,7 +2,7 @@ use mathlib.Core.Path.{sym, ◌∙◌}
 use Prim.Native.Nat.{◌-◌, ◌*◌}
 use native.Mathlib.Omega.{arith}
 use Rattle.lists.specs.Lists.{how_many}
-use Rattle.lists.specs.LoopLaws.{Scan, scan_hit, scan_miss, scan_end}
+use Rattle.lists.proofs.LoopLaws.{Scan, scan_hit, scan_miss, scan_end}
 use Rattle.counting_tree.specs.Ready.{geometry_at}
 use Rattle.cells_grid.specs.Cells.{members}
 use Rattle.cells_grid.specs.Arrangement.{cell_at}

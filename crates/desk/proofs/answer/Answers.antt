@@ -4,7 +4,7 @@ use mathlib.Core.List.{List}
 use Prim.Native.Nat.{ℕ}
 use native.Mathlib.Omega.{arith}
 use lib.ListN.{length, take, replicate}
-use Rattle.lists.specs.PartLaws.{part_same}
+use Rattle.lists.proofs.PartLaws.{part_same}
 use Rattle.desk.specs.Desk.{desk_of, most_bytes}
 use Rattle.desk.proofs.Whole.{desk_length}
 use borrow.Author.Rules.{rules}

@@ -4,8 +4,8 @@ use native.Mathlib.Nat.{zero-add}
 use native.Mathlib.Omega.{arith}
 use lib.ListN.{length}
 use Rattle.lists.specs.ListLaws.{length_numbers}
-use Rattle.lists.specs.WordLaws.{over_all}
-use Rattle.lists.specs.LoopLaws.{Fill, fill_start, fill_step, fill_length, fill_end}
+use Rattle.lists.proofs.WordLaws.{over_all}
+use Rattle.lists.proofs.LoopLaws.{Fill, fill_start, fill_step, fill_length, fill_end}
 use Rattle.partitions.proofs.reset.Goals as goal
 
 pub loop-c-init : goal.loop-c-init

@@ -1,5 +1,5 @@
 -- `write_node` meets its contract: four stores, one after the other.
-use Rattle.lists.specs.WordLaws.{four_sets}
+use Rattle.lists.proofs.WordLaws.{four_sets}
 use Rattle.tree_structure.proofs.write_node.Goals as goal
 
 pub returns : goal.returns

@@ -5,7 +5,7 @@ use native.Mathlib.Omega.{arith}
 use lib.ListN.{get_or}
 use Rattle.blocks.specs.AroundLaws.{Rows, rows_multiple}
 use Rattle.cells_grid.specs.Listing.{reach_of}
-use Rattle.cells_grid.specs.ListingLaws.{few}
+use Rattle.cells_grid.proofs.ListingLaws.{few}
 use Rattle.cells_grid.proofs.Searching.{found_room, found_below, found_before, found_near, found_far}
 use borrow.Author.Rules.{rules}
 use Rattle.cells_grid.proofs.listing.is_found.Goals as goal

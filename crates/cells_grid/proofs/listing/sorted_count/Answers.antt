@@ -1,7 +1,7 @@
 -- `sorted_count` meets its contract.
 use mathlib.Core.Path.{sym}
 use native.Mathlib.Omega.{arith}
-use Rattle.lists.specs.SortLaws.{begin_first}
+use Rattle.lists.proofs.SortLaws.{begin_first}
 use borrow.Author.Rules.{rules}
 use Rattle.cells_grid.proofs.listing.sorted_count.Goals as goal
 

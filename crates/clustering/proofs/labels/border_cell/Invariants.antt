@@ -3,7 +3,7 @@ use Prim.Native.Nat.{◌-◌}
 use mathlib.Core.Path.{ap}
 use native.Mathlib.Omega.{arith}
 use lib.ListN.{length}
-use Rattle.lists.specs.LoopLaws.{Lowest, lowest_start}
+use Rattle.lists.proofs.LoopLaws.{Lowest, lowest_start}
 use Rattle.counting_tree.specs.Ready.{geometry_at}
 use Rattle.cells_grid.specs.Listing.{list_of}
 use Rattle.clustering.proofs.Bordering.{counts, can_list, few_listed, room_listed, can_ask, not_lower, no_count, lower, lowest_border, listed_cleared}

@@ -7,7 +7,7 @@ use native.Mathlib.Omega.{arith}
 use borrow.Author.Tests.{eq-eqb, ne_eqb}
 use lib.ListN.{length, drop}
 use lib.Ieee.{Float}
-use Rattle.lists.specs.LoopLaws.{Fill, fill_start, fill_step, fill_end}
+use Rattle.lists.proofs.LoopLaws.{Fill, fill_start, fill_step, fill_end}
 use Rattle.lists.specs.Words.{over}
 use Rattle.counting_tree.specs.Arrays.{corner_of, row_of}
 use Rattle.counting_tree.proofs.Arrays.{corner_at, corner_column, corner_here, corner_after}

@@ -3,7 +3,7 @@ use Prim.Native.Nat.{ℕ, ◌-◌, ◌^◌, ◌≤◌}
 use native.Mathlib.Omega.{arith}
 use lib.ListN.{replicate}
 use lib.Ieee.{of_bits, of_int}
-use Rattle.lists.specs.LoopLaws.{Fill, fill_start, fill_step, fill_end}
+use Rattle.lists.proofs.LoopLaws.{Fill, fill_start, fill_step, fill_end}
 use Rattle.lists.specs.Words.{over, column}
 use Rattle.hyperparams.specs.Params.{float}
 use Rattle.counting_tree.specs.Grid.{half}

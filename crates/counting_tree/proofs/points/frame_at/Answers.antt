@@ -3,7 +3,7 @@ use mathlib.Core.Path.{refl, sym}
 use Prim.Native.Nat.{◌*◌}
 use native.Mathlib.Nat.{add-zero}
 use native.Mathlib.Omega.{arith}
-use Rattle.lists.specs.PartLaws.{part_length}
+use Rattle.lists.proofs.PartLaws.{part_length}
 use Rattle.counting_tree.proofs.Arrays.{four_placed}
 use Rattle.counting_tree.proofs.Counts.{count_read, count_past}
 use borrow.Author.Rules.{rules}

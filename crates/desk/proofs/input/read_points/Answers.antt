@@ -3,7 +3,7 @@ use mathlib.Core.Path.{◌∙◌}
 use native.Mathlib.Omega.{arith}
 use mir.Facts.{to_z-of_z}
 use mir.Syntax.{w16}
-use Rattle.lists.specs.LoopLaws.{Fill, fill_start, fill_step, fill_length, fill_end}
+use Rattle.lists.proofs.LoopLaws.{Fill, fill_start, fill_step, fill_length, fill_end}
 use Rattle.desk.specs.Desk.{count_at}
 use Rattle.desk.proofs.input.read_points.Goals as goal
 

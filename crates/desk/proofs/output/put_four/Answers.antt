@@ -4,7 +4,7 @@ use mathlib.Core.List.{List}
 use Prim.Native.Nat.{ℕ, ◌+◌, ◌/◌}
 use native.Mathlib.Omega.{arith}
 use Rattle.lists.specs.Words.{over}
-use Rattle.lists.specs.WordLaws.{over_next}
+use Rattle.lists.proofs.WordLaws.{over_next}
 use Rattle.desk.specs.Desk.{hex2, hex4}
 use borrow.Author.Rules.{rules}
 use Rattle.desk.proofs.output.put_four.Goals as goal

@@ -1,7 +1,7 @@
 -- The product of two numbers below 2^32 fits.
 use mathlib.Core.Path.{refl}
 use Rattle.lists.specs.Buckets.{bucket}
-use Rattle.lists.specs.BucketLaws.{product_fits}
+use Rattle.lists.proofs.BucketLaws.{product_fits}
 use Rattle.lists.proofs.buckets.bucket.Goals as goal
 
 pub overflow_mul-result : goal.overflow_mul-result

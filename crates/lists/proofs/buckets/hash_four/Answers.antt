@@ -2,7 +2,7 @@
 use native.Mathlib.Omega.{arith}
 use lib.ListN.{get_or}
 use Rattle.lists.specs.Buckets.{hashes}
-use Rattle.lists.specs.BucketLaws.{mix_below, four_hash}
+use Rattle.lists.proofs.BucketLaws.{mix_below, four_hash}
 use Rattle.lists.specs.OrderLaws.{below_at}
 use borrow.Author.Rules.{rules}
 use Rattle.lists.proofs.buckets.hash_four.Goals as goal

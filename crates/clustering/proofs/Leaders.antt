@@ -13,10 +13,10 @@ use Rattle.lists.specs.OrderLaws.{keep_ascending, ascending_same}
 use Rattle.counting_tree.specs.Geometry.{Geometry}
 use Rattle.cells_grid.specs.Cells.{core_cells}
 use Rattle.cells_grid.specs.Lawful.{Lawful}
-use Rattle.cells_grid.specs.CellLaws.{core_cells_ascending}
+use Rattle.cells_grid.proofs.CellLaws.{core_cells_ascending}
 use Rattle.clustering.specs.Clusters.{place, linked, clusters}
 use Rattle.clustering.specs.Sets.{cover, inside, joined, closed_chain, in_sets, placed, Ranked, ranked, head_low}
-use Rattle.clustering.specs.ClusterLaws.{Linked, link_turn}
+use Rattle.clustering.proofs.ClusterLaws.{Linked, link_turn}
 
 -- ---- the first cells of ranked sets
 abbrev heads : List (List ℕ) → List ℕ

@@ -18,17 +18,17 @@ use Rattle.counting_tree.specs.Geometry.{Geometry}
 use Rattle.counting_tree.specs.Ready.{geometry_at, Ready}
 use Rattle.cells_grid.specs.Cells.{cells, listed, core_cell}
 use Rattle.cells_grid.specs.Lawful.{Lawful}
-use Rattle.cells_grid.specs.CellLaws.{listed_turn}
+use Rattle.cells_grid.proofs.CellLaws.{listed_turn}
 use Rattle.cells_grid.specs.Arrangement.{cell_at}
 use Rattle.cells_grid.specs.Listing.{unmarked, later_of}
-use Rattle.cells_grid.specs.ListingLaws.{later_sound, later_complete}
+use Rattle.cells_grid.proofs.ListingLaws.{later_sound, later_complete}
 use Rattle.partitions.specs.Leaders.{shorten_both}
 use Rattle.partitions.specs.LeaderLaws.{Stands, both_stand, united_stands}
 use Rattle.partitions.specs.Trials.{Holding, Outcome, run, merged, by_lowest}
 use Rattle.partitions.specs.TrialLaws.{run_finishes, run_keeps, Link, Within, joined_one, one_joined}
-use Rattle.clustering.specs.LeaderPartition.{Lowest, unite_lowest}
+use Rattle.clustering.proofs.LeaderPartition.{Lowest, unite_lowest}
 use Rattle.clustering.specs.Uniting.{pair_at, pairs_with, pairs_of, touch_at, uniting, lowest_at}
-use Rattle.clustering.specs.UnitingLaws.{in_pairs, pairs_in, pair_parts, parts_pair, with_within, pairs_few}
+use Rattle.clustering.proofs.UnitingLaws.{in_pairs, pairs_in, pair_parts, parts_pair, with_within, pairs_few}
 use Rattle.clustering.specs.UniteAll.{link_at, meet, meet_all, by_own_leaders, unlike, pairs_by}
 
 -- ---- however sets are held

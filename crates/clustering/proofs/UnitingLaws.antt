@@ -19,15 +19,15 @@ use Rattle.lists.specs.Chains.{Chain, alone, step, chain_first, chain_last}
 use Rattle.counting_tree.specs.Geometry.{Geometry}
 use Rattle.cells_grid.specs.Cells.{cells, cell_number, listed, core_cell, core_cells}
 use Rattle.cells_grid.specs.Lawful.{Lawful}
-use Rattle.cells_grid.specs.CellLaws.{cell_first, core_cell_in, in_core_cell, listed_turn, number_cell}
+use Rattle.cells_grid.proofs.CellLaws.{cell_first, core_cell_in, in_core_cell, listed_turn, number_cell}
 use Rattle.cells_grid.specs.Arrangement.{cell_at}
-use Rattle.cells_grid.specs.ArrangementLaws.{cell_at_lem, cell_at_one, cell_at_order, cells_by_number, number_below, number_at}
+use Rattle.cells_grid.proofs.ArrangementLaws.{cell_at_lem, cell_at_one, cell_at_order, cells_by_number, number_below, number_at}
 use Rattle.partitions.specs.Trials.{merged, by_lowest}
 use Rattle.partitions.specs.TrialLaws.{run_finishes, run_keeps, Link, Within, joined_one, one_joined}
 use Rattle.clustering.specs.Clusters.{touches, linked, clusters, place}
-use Rattle.clustering.specs.ClusterLaws.{Linked, linked_parts, parts_linked}
-use Rattle.clustering.specs.Leaders.{Leads, number_by_leaders, cluster_count_lem}
-use Rattle.clustering.specs.LeaderPartition.{Lowest, unite_lowest, lower_either, equal}
+use Rattle.clustering.proofs.ClusterLaws.{Linked, linked_parts, parts_linked}
+use Rattle.clustering.proofs.Leaders.{Leads, number_by_leaders, cluster_count_lem}
+use Rattle.clustering.proofs.LeaderPartition.{Lowest, unite_lowest, lower_either, equal}
 use Rattle.clustering.specs.Uniting.{pair_at, one_pair, pairs_with, pairs_of, touch_at, uniting, lowest_at}
 use Rattle.clustering.specs.Numbering.{Led, leads, number_by, cluster_word}
 

@@ -16,16 +16,16 @@ use Rattle.lists.specs.Words.{over, part, column}
 use Rattle.lists.specs.ListLaws.{T_true, T_false, T_or_not, both_ways, bit_eqb, lose_in, keep_same, keep_more, at_in, in_map, map_same, in_some, in_concat, in_numbers, at_numbers, length_numbers}
 use Rattle.lists.specs.CountLaws.{keep_map, parts_length, total_append, length_concat, concat_append}
 use Rattle.lists.specs.OrderLaws.{at_rank, kept_le}
-use Rattle.lists.specs.WordLaws.{over_length}
-use Rattle.lists.specs.PartLaws.{part_part, part_under, part_same, part_at, part_below, holds_at, holds_at_0}
-use Rattle.lists.specs.Within.{Within, within_self, within_over}
+use Rattle.lists.proofs.WordLaws.{over_length}
+use Rattle.lists.proofs.PartLaws.{part_part, part_under, part_same, part_at, part_below, holds_at, holds_at_0}
+use Rattle.lists.proofs.Within.{Within, within_self, within_over}
 use Rattle.lists.specs.Sorting.{numbered, size_of, start_of, places_of}
-use Rattle.lists.specs.SortLaws as Sorting
-use Rattle.lists.specs.SortLaws.{start_of_none, start_of_next, start_of_all}
+use Rattle.lists.proofs.SortLaws as Sorting
+use Rattle.lists.proofs.SortLaws.{start_of_none, start_of_next, start_of_all}
 use Rattle.counting_tree.specs.Geometry.{Geometry}
 use Rattle.cells_grid.specs.Cells.{same_cell, members, first, is_cell, cells, cell_number, listed, list, core}
 use Rattle.cells_grid.specs.Lawful.{Lawful}
-use Rattle.cells_grid.specs.CellLaws.{in_member, members_same, first_in, cell_first, cells_ascending, first_cell, number_cell, number_same}
+use Rattle.cells_grid.proofs.CellLaws.{in_member, members_same, first_in, cell_first, cells_ascending, first_cell, number_cell, number_same}
 use Rattle.cells_grid.specs.Arrangement.{cell_at, arranged, start_at, core_bit, Arranged, Cored}
 use Rattle.cells_grid.specs.Places.{end_in, populated}
 

@@ -7,7 +7,7 @@ use Rattle.std.proofs.Common.{sym, ap, ap₂, ◌∙◌, subst, subst₂, le-add
 use Rattle.std.proofs.Math.Dec.{leb-zero, leb-suc-zero, leb-suc-suc}
 use Rattle.std.proofs.Math.IntN.{suc_ℤ, +ℤ_idl, +ℤ_idr, +ℤ_one, +ℤ_invr, *ℤ-zero}
 use Rattle.std.specs.Int.Signed.{le_z, lt_z, le_z_yes, lt_z_yes, ≤ℤ_refl}
-use Rattle.ring.specs.Ring.{Sides, rest, Left, done, ring, ints, poly, ◌⊖◌}
+use Rattle.ring.proofs.Ring.{Sides, rest, Left, done, ring, ints, poly, ◌⊖◌}
 
 -- the order of `lib.Signed`, which binds tighter than a sum, under names that bind looser
 infix 4 ◌≼◌ ◌≺◌

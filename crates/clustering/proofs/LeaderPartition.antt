@@ -11,8 +11,9 @@ use Rattle.lists.specs.ListLaws.{T_or_not, or_cases, or_one, or_two, cond_true}
 use Rattle.counting_tree.specs.Geometry.{Geometry}
 use Rattle.cells_grid.specs.Cells.{cells, list, core_cell}
 use Rattle.cells_grid.specs.Lawful.{Lawful}
-use Rattle.clustering.specs.Leaders.{Leads}
-use Rattle.clustering.specs.AnyOrder.{OneAfter, Partition, outer_rec, touches_by, united, Children, loop_sound, loop_complete}
+use Rattle.clustering.proofs.Leaders.{Leads}
+use Rattle.clustering.specs.AnyOrder.{OneAfter, Partition, outer_rec, touches_by, united, Children}
+use Rattle.clustering.proofs.AnyOrderLaws.{loop_sound, loop_complete}
 
 -- ---- cells are in one set if they have one leader
 pub equal : {a b : ℕ} → a ≡ b → T (eqb a b)

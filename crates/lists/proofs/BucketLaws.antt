@@ -5,8 +5,8 @@ use Rattle.std.proofs.Math.Decide.{ℕ_discrete, dec_lt}
 use Rattle.std.proofs.Math.Dec.{eqb_refl}
 use Rattle.lists.specs.Words.{over, Clear}
 use Rattle.lists.specs.ListLaws.{true_T, T_true, T_false}
-use Rattle.lists.specs.WordLaws.{over_length}
-use Rattle.lists.specs.PartLaws.{get_under, get_laid, get_above}
+use Rattle.lists.proofs.WordLaws.{over_length}
+use Rattle.lists.proofs.PartLaws.{get_under, get_laid, get_above}
 use Rattle.lists.specs.Buckets.{last_with, hashes, mix, hash_from, hash_of, bucket, in_bucket, Bucketed}
 
 -- ---- hashes and buckets are in range

@@ -30,11 +30,11 @@ use Rattle.blocks.specs.BlockLaws.{which_below, by_values, concat_perm}
 use Rattle.blocks.specs.RowLaws.{rest_long, apart_first, near_within, row_all, in_one}
 use Rattle.blocks.specs.OwnRowLaws.{which_turn}
 use Rattle.cells_grid.specs.Cells.{first, listed, neighbour}
-use Rattle.cells_grid.specs.CellLaws.{listed_turn}
+use Rattle.cells_grid.proofs.CellLaws.{listed_turn}
 use Rattle.cells_grid.specs.Ready.{ready_lawful}
 use Rattle.cells_grid.specs.Crowding.{itself, every}
 use Rattle.cells_grid.specs.Pairs.{raised, Room, row_for, low_in, later_row, later_of, risen, others}
-use Rattle.cells_grid.specs.RaisedLaws.{often_append, often_replicate}
+use Rattle.cells_grid.proofs.RaisedLaws.{often_append, often_replicate}
 
 -- how often x stands in what is kept of the numbers below n
 often_kept : (f : ℕ → Bool) (n x : ℕ) → x < n → how_many (λ j. eqb x j) (keep f (numbers n)) ≡ cond (f x) 1 0

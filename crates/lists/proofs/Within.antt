@@ -3,8 +3,8 @@ use Rattle.std.specs.Prelude.{◌≡◌, refl, List, ◌++◌, ℕ, ◌+◌, ◌
 use Rattle.std.proofs.Common.{sym, ap, ◌∙◌, arith, drop-drop, get_or-drop}
 use Rattle.std.proofs.lemmas.List.{length-replicate, get_or-replicate}
 use Rattle.lists.specs.Words.{over, Clear}
-use Rattle.lists.specs.WordLaws.{over_length}
-use Rattle.lists.specs.PartLaws.{drop_above, get_laid}
+use Rattle.lists.proofs.WordLaws.{over_length}
+use Rattle.lists.proofs.PartLaws.{drop_above, get_laid}
 
 -- w' is w but for its first m words
 pub record Within (m : ℕ) (w w' : List ℕ) : Type 0 where

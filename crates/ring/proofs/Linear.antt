@@ -6,8 +6,8 @@ use Rattle.std.specs.Prelude.{◌≡◌, List, [], ◌∷◌, ℕ, suc, ◌+◌,
 use Rattle.std.proofs.Common.{sym, ap, ap₂, ◌∙◌, le_antisymm, le_of_eq, arith}
 use Rattle.std.proofs.Math.IntN.{pow}
 use Rattle.ring.specs.Poly.{nth}
-use Rattle.ring.specs.Ring.{Term, atom, int, add, mul, neg, raise, same, Sides, sides, ring, poly, done, ◌⊖◌}
-use Rattle.ring.specs.Order.{◌≼◌, ◌≺◌, below, slack, slackℕ, ◌⊞◌, nil, diff, ◌⊕◌, le_of_pos_le, ≼_antisym, lt_of_add_one_le, add_one_le_of_lt, ≼_of_eq}
+use Rattle.ring.proofs.Ring.{Term, atom, int, add, mul, neg, raise, same, Sides, sides, ring, poly, done, ◌⊖◌}
+use Rattle.ring.proofs.Order.{◌≼◌, ◌≺◌, below, slack, slackℕ, ◌⊞◌, nil, diff, ◌⊕◌, le_of_pos_le, ≼_antisym, lt_of_add_one_le, add_one_le_of_lt, ≼_of_eq}
 
 -- the positive and the negative part of a number
 infixl 20 ◌⁺ ◌⁻

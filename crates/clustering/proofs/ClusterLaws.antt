@@ -9,7 +9,7 @@ use Rattle.lists.specs.CountLaws.{keep_le}
 use Rattle.counting_tree.specs.Geometry.{Geometry}
 use Rattle.cells_grid.specs.Cells.{first, is_cell, cells, listed, list, core, core_cell, core_cells, count}
 use Rattle.cells_grid.specs.Lawful.{Lawful}
-use Rattle.cells_grid.specs.CellLaws.{in_list, list_in_lem, listed_turn, core_cells_ascending}
+use Rattle.cells_grid.proofs.CellLaws.{in_list, list_in_lem, listed_turn, core_cells_ascending}
 use Rattle.clustering.specs.Clusters.{place, border_label, border_kind, touches, linked, clusters, touched, label_by, kind_of}
 use Rattle.clustering.specs.Sets as Sets
 use Rattle.clustering.specs.Sets.{Joined, inside, joined, connected_le, in_sets, sets_in, one_number, number_joins, ranked, some_place, rank_place}

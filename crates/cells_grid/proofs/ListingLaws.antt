@@ -17,9 +17,9 @@ use Rattle.lists.specs.ListLaws.{true_T, and_left, and_right, and_both, in_keep,
 use Rattle.lists.specs.CountLaws.{keep_append, keep_le, keep_all}
 use Rattle.lists.specs.OrderLaws.{kept_le}
 use Rattle.lists.specs.PermLaws.{perm_same, perm_length}
-use Rattle.lists.specs.WordLaws.{over_again}
-use Rattle.lists.specs.PartLaws.{get_under, part_at, clear_over, clear_within}
-use Rattle.lists.specs.SortLaws.{sorted_over, start_le, start_of_all, places_of_length, places_of_below, begin_at}
+use Rattle.lists.proofs.WordLaws.{over_again}
+use Rattle.lists.proofs.PartLaws.{get_under, part_at, clear_over, clear_within}
+use Rattle.lists.proofs.SortLaws.{sorted_over, start_le, start_of_all, places_of_length, places_of_below, begin_at}
 use Rattle.hyperparams.specs.declared.ValidParams.{ValidParams}
 use Rattle.counting_tree.specs.Frames.{squared}
 use Rattle.counting_tree.specs.Geometry.{Geometry, geometry_of, near}
@@ -31,7 +31,7 @@ use Rattle.blocks.specs.OwnRowLaws.{own_row_low, rows_turn}
 use Rattle.cells_grid.specs.Cells.{cells, listed, core_cell}
 use Rattle.cells_grid.specs.Arrangement.{cell_at}
 use Rattle.cells_grid.specs.Ready.{ready_lawful}
-use Rattle.cells_grid.specs.ArrangementLaws.{cells_le, cell_at_below, listed_at}
+use Rattle.cells_grid.proofs.ArrangementLaws.{cells_le, cell_at_below, listed_at}
 use Rattle.cells_grid.specs.Listing.{reach_of, core_at, unmarked, sorted_count, geo, cell_buckets, cell_key, near_at, near_from, near_in, list_in, list_from, list_of, later_of, CellsSorted, MarkedRuns}
 
 -- words laid over words that are 0, and made 0 again

@@ -3,9 +3,9 @@ use Rattle.std.specs.Prelude.{◌≡◌, refl, List, [], ◌∷◌, ℕ, suc, �
 use Rattle.std.proofs.Common.{mul-le-mul, arith}
 use Rattle.std.proofs.Math.Nat.{mul-div-le}
 use Rattle.std.proofs.Math.IntN.{sub_ℕ, pow}
-use Rattle.ring.specs.Ring.{Term, same, add, ring, ringℕ, poly, done, ◌⊖◌}
-use Rattle.ring.specs.Order.{◌≼◌, ◌≺◌, below, belowℕ, strictly, refute, equal, equalℕ, sq, num, slack, slackℕ, ◌⊞◌, ◌⊠◌, diff, diffℕ, ◌⊕◌, ◌⊙◌, nonneg}
-use Rattle.ring.specs.Linear.{linear, linear_lt, linear_eq, fact, fact_lt, fact_eq}
+use Rattle.ring.proofs.Ring.{Term, same, add, ring, ringℕ, poly, done, ◌⊖◌}
+use Rattle.ring.proofs.Order.{◌≼◌, ◌≺◌, below, belowℕ, strictly, refute, equal, equalℕ, sq, num, slack, slackℕ, ◌⊞◌, ◌⊠◌, diff, diffℕ, ◌⊕◌, ◌⊙◌, nonneg}
+use Rattle.ring.proofs.Linear.{linear, linear_lt, linear_eq, fact, fact_lt, fact_eq}
 
 -- ---- equations over ℤ
 a_product : (a b : ℤ) → (a +ℤ b) *ℤ (a -ℤ b) ≡ a *ℤ a -ℤ b *ℤ b

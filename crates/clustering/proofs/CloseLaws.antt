@@ -16,16 +16,16 @@ use Rattle.counting_tree.specs.Geometry.{Geometry, geometry_of, frame, N, near}
 use Rattle.counting_tree.specs.Domain.{Counts}
 use Rattle.counting_tree.specs.Paths as Paths
 use Rattle.counting_tree.specs.Ready.{geometry_at, Ready, at_frames}
-use Rattle.counting_tree.specs.Reach.{near_reaches}
+use Rattle.counting_tree.proofs.Reach.{near_reaches}
 use Rattle.cells_grid.specs.Cells.{cells, core, core_members, core_cell}
 use Rattle.cells_grid.specs.Lawful.{Lawful}
 use Rattle.cells_grid.specs.Ready.{ready_lawful}
-use Rattle.cells_grid.specs.CellLaws.{core_in_lem, count_path}
+use Rattle.cells_grid.proofs.CellLaws.{core_in_lem, count_path}
 use Rattle.cells_grid.specs.Arrangement.{cell_at}
-use Rattle.cells_grid.specs.ArrangementLaws.{cell_at_below, listed_at}
+use Rattle.cells_grid.proofs.ArrangementLaws.{cell_at_below, listed_at}
 use Rattle.clustering.specs.Clusters.{touches}
 use Rattle.clustering.specs.Uniting.{pair_at, pairs_of}
-use Rattle.clustering.specs.UnitingLaws.{parts_pair, pairs_in}
+use Rattle.clustering.proofs.UnitingLaws.{parts_pair, pairs_in}
 use Rattle.clustering.specs.Close.{back, later_at, earlier_at, close_at, close_pair, close_turns, close_pairs}
 
 module _ {ps : List ℤ} {v : ValidParams} {n : ℕ} (r : Ready ps v n) where

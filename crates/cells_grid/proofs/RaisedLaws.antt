@@ -11,12 +11,12 @@ use Rattle.lists.specs.Lists.{numbers, keep, how_many, In}
 use Rattle.lists.specs.Words.{over, part, column}
 use Rattle.lists.specs.ListLaws.{map_same, in_numbers, at_numbers, length_numbers, append_one, append_two}
 use Rattle.lists.specs.CountLaws.{keep_append, how_many_cons}
-use Rattle.lists.specs.WordLaws.{over_length, over_self, over_again, set_laid}
-use Rattle.lists.specs.PartLaws.{get_laid, get_above, part_above, column_part, column_set}
-use Rattle.lists.specs.SortLaws.{sorted_over}
+use Rattle.lists.proofs.WordLaws.{over_length, over_self, over_again, set_laid}
+use Rattle.lists.proofs.PartLaws.{get_laid, get_above, part_above, column_part, column_set}
+use Rattle.lists.proofs.SortLaws.{sorted_over}
 use Rattle.hyperparams.specs.declared.ValidParams.{ValidParams}
 use Rattle.counting_tree.specs.Ready.{geometry_at, at_frames}
-use Rattle.cells_grid.specs.ArrangementLaws.{arranged_over}
+use Rattle.cells_grid.proofs.ArrangementLaws.{arranged_over}
 use Rattle.cells_grid.specs.Pairs.{raised, Room, Laid}
 
 -- ---- how often a number stands in a list

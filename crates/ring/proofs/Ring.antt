@@ -10,7 +10,8 @@ use Rattle.std.proofs.Math.Nat.{pow-zero, sub-zero}
 use Rattle.std.proofs.Math.Dec.{leb-suc-zero}
 use Rattle.std.proofs.Math.IntN.{sub_ℕ, pow, one, +ℤ_idr, +ℤ-neg_ℤ_cancel}
 use Rattle.ring.specs.Int.{one_*ℤ, *ℤ_pos_one, minus_one_*ℤ, eq_of_sub}
-use Rattle.ring.specs.Poly.{Poly, none, more, nth, total, plus, scale, times, power, tidy, plus_is, scale_is, times_is, power_is, tidy_is}
+use Rattle.ring.specs.Poly.{Poly, none, more, nth, total, plus, scale, times, power, tidy}
+use Rattle.ring.proofs.PolyLaws.{plus_is, scale_is, times_is, power_is, tidy_is}
 
 -- the difference, as an operation that does not compute, so that `search` meets it as it is written
 infixl 6 ◌⊖◌

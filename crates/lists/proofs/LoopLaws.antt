@@ -7,8 +7,8 @@ use Rattle.lists.specs.Words.{over, part, column, rest}
 use Rattle.lists.specs.ListLaws.{true_T, T_true, T_false, and_left, and_right, and_both, keep_in, in_keep, at_in, head_in, numbers_in, in_numbers, length_numbers}
 use Rattle.lists.specs.CountLaws.{keep_none, how_many_cons}
 use Rattle.lists.specs.OrderLaws.{numbers_ascending, keep_ascending, head_lowest}
-use Rattle.lists.specs.WordLaws.{over_length, over_nil, over_snoc}
-use Rattle.lists.specs.PartLaws.{part_under, part_step, column_snoc, column_part}
+use Rattle.lists.proofs.WordLaws.{over_length, over_nil, over_snoc}
+use Rattle.lists.proofs.PartLaws.{part_under, part_step, column_snoc, column_part}
 
 -- ---- what is left of the numbers
 pub rest_start : (n : ℕ) → rest n 0 ≡ numbers n

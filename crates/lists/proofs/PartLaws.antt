@@ -9,7 +9,7 @@ use Rattle.lists.specs.Lists.{numbers, Below}
 use Rattle.lists.specs.Words.{over, part, column, Clear, Apart}
 use Rattle.lists.specs.ListLaws.{at_numbers, length_numbers}
 use Rattle.lists.specs.OrderLaws.{numbers_snoc, below_at}
-use Rattle.lists.specs.WordLaws.{front_length, over_self, set_over}
+use Rattle.lists.proofs.WordLaws.{front_length, over_self, set_over}
 
 module _ {A : Type 0} where
   pub part_length : (xs : List A) (a n : ℕ) → a + n ≤ length xs → length (part xs a n) ≡ n
