@@ -27,5 +27,6 @@ pub loop-i-preserved : goal.loop-i-preserved
 loop-i-preserved c = (omega arith, sym (add-zero _) ∙ counted _ c.loop-i.m c.loop-i.i false c.loop-i.invariant.1 (sym c.is_core.ensures ∙ c.if-is_core.false), omega arith)
 
 pub returns : goal.returns
-returns c =     let e : c.loop-i.i ≡ c.args.n = omega arith in
+returns c =
+    let e : c.loop-i.i ≡ c.args.n = omega arith in
     c.loop-i.invariant.1 ∙ ap (λ (k : ℕ). how_many (λ (j : ℕ). eqb (get_or c.args.work.now (4 * c.args.n + j) 0) 1) (numbers k)) e

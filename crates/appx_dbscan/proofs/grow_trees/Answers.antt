@@ -15,10 +15,13 @@ pub wanted-requires : goal.wanted-requires
 wanted-requires c =                 (c.requires.0, built_grown c.requires.0 c.requires.1 c.requires.2 c.path_limit-limit.result c.build_trees.ensures, search rules, built_clear c.requires.0 c.requires.1 c.requires.2 c.path_limit-limit.result c.build_trees.ensures c.requires.3)
 
 pub build_trees-requires-then-wanted : goal.build_trees-requires-then-wanted
-build_trees-requires-then-wanted c =             let e₂ = written c.requires.0 c.requires.1 c.requires.2 c.path_limit-limit.result c.build_trees.ensures c.wanted.ensures in record { ready = (c.requires.0, (grew_grown c.requires.0 c.requires.1 c.requires.2 c.path_limit-limit.result e₂).cored); s_in_bounds = (search rules, grew_scratch c.requires.0 c.requires.1 c.requires.2 c.path_limit-limit.result e₂ c.requires.3) }
+build_trees-requires-then-wanted c =
+    let e₂ = written c.requires.0 c.requires.1 c.requires.2 c.path_limit-limit.result c.build_trees.ensures c.wanted.ensures in
+    record { ready = (c.requires.0, (grew_grown c.requires.0 c.requires.1 c.requires.2 c.path_limit-limit.result e₂).cored); s_in_bounds = (search rules, grew_scratch c.requires.0 c.requires.1 c.requires.2 c.path_limit-limit.result e₂ c.requires.3) }
 
 pub returns-then-wanted : goal.returns-then-wanted
-returns-then-wanted c =                 let e₂ = written c.requires.0 c.requires.1 c.requires.2 c.path_limit-limit.result c.build_trees.ensures c.wanted.ensures in
+returns-then-wanted c =
+    let e₂ = written c.requires.0 c.requires.1 c.requires.2 c.path_limit-limit.result c.build_trees.ensures c.wanted.ensures in
     (64, rebuilt c.requires.0 c.requires.1 c.requires.2 c.path_limit-limit.result e₂ (omega (arith, c.path_limit-limit.ensures, limit_least (levels c.args.v.s) c.args.n c.args.k)) c.build_trees-then-wanted.ensures)
 
 pub returns-else-wanted : goal.returns-else-wanted

@@ -13,7 +13,9 @@ overflow_add-b c = record { fits = omega (arith, c.bucket.ensures, c.requires, b
 
 pub returns-then-b-size : goal.returns-then-b-size
 unfolding bucket_at
-returns-then-b-size c = let e = ap (λ (b : ℕ). (b + c.args.along) % c.args.size) c.bucket.ensures in record { value = sym (mod-eq_of_lt c.if-b-size.true) ∙ e; upper_bound = c.if-b-size.true }
+returns-then-b-size c =
+    let e = ap (λ (b : ℕ). (b + c.args.along) % c.args.size) c.bucket.ensures in
+    record { value = sym (mod-eq_of_lt c.if-b-size.true) ∙ e; upper_bound = c.if-b-size.true }
 
 pub returns : goal.returns
 unfolding bucket_at

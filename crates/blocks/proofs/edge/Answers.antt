@@ -7,10 +7,14 @@ use borrow.Author.Rules.{rules}
 use Rattle.blocks.proofs.edge.Goals as goal
 
 pub returns-then-x-down : goal.returns-then-x-down
-returns-then-x-down c =     let x = raised_is c.args.c c.raised-x.result c.ranges.c c.raised-x.ensures.value in record { value = edge_zero c.args.width c.requires c.args.c x c.args.down c.if-x-down.true; upper_bound = omega arith }
+returns-then-x-down c =
+    let x = raised_is c.args.c c.raised-x.result c.ranges.c c.raised-x.ensures.value in
+    record { value = edge_zero c.args.width c.requires c.args.c x c.args.down c.if-x-down.true; upper_bound = omega arith }
 
 pub overflow_sub-result : goal.overflow_sub-result
 overflow_sub-result c = mod-le (c.raised-x.result - c.args.down) c.args.width
 
 pub returns : goal.returns
-returns c =     let x = raised_is c.args.c c.raised-x.result c.ranges.c c.raised-x.ensures.value in record { value = edge_down c.args.width c.requires c.args.c x c.args.down; upper_bound = omega (arith, c.raised-x.ensures.bound) }
+returns c =
+    let x = raised_is c.args.c c.raised-x.result c.ranges.c c.raised-x.ensures.value in
+    record { value = edge_down c.args.width c.requires c.args.c x c.args.down; upper_bound = omega (arith, c.raised-x.ensures.bound) }

@@ -55,4 +55,6 @@ pub bounds-points-start-4 : goal.bounds-points-start-4
 bounds-points-start-4 c =         (place c.requires.0 c.args.i c.requires.1 3 _ (omega (arith, c.requires.0.settings.scale.some, c.if-v-eq1.false, c.if-v-eq2.false, c.if-v-eq3.false)) refl).inside
 
 pub returns : goal.returns
-returns c =         let d : 4 ≡ c.args.v.channels = omega (arith, c.requires.0.settings.scale.some, c.requires.0.settings.scale.most, c.if-v-eq1.false, c.if-v-eq2.false, c.if-v-eq3.false) in record { value = place_four (edges_of c.args.width c.args.down (frame c.args.v (frames_in c.args.n c.args.v.channels c.args.points.now) c.args.i)) c.edge-a.result c.edge-b.result c.edge-c.result c.edge-d.result (edges_long c.requires.0 c.args.i c.requires.1 c.args.width c.args.down ∙ sym d) (edge_at c.requires.0 c.args.i c.requires.1 c.args.width c.args.down 0 _ c.edge-a.result c.requires.0.settings.scale.some (sym (add-zero _)) (record { sfits = c.edge-arg-1.given }) c.edge-a.ensures.value) (edge_at c.requires.0 c.args.i c.requires.1 c.args.width c.args.down 1 _ c.edge-b.result (omega (arith, c.requires.0.settings.scale.some, c.if-v-eq1.false)) refl (record { sfits = c.edge-arg-2-1.given }) c.edge-b.ensures.value) (edge_at c.requires.0 c.args.i c.requires.1 c.args.width c.args.down 2 _ c.edge-c.result (omega (arith, c.requires.0.settings.scale.some, c.if-v-eq1.false, c.if-v-eq2.false)) refl (record { sfits = c.edge-arg-3-1.given }) c.edge-c.ensures.value) (edge_at c.requires.0 c.args.i c.requires.1 c.args.width c.args.down 3 _ c.edge-d.result (omega (arith, c.requires.0.settings.scale.some, c.if-v-eq1.false, c.if-v-eq2.false, c.if-v-eq3.false)) refl (record { sfits = c.edge-arg-4-1.given }) c.edge-d.ensures.value); below = four_below 65536 _ _ _ _ c.edge-a.ensures.upper_bound c.edge-b.ensures.upper_bound c.edge-c.ensures.upper_bound c.edge-d.ensures.upper_bound }
+returns c =
+    let d : 4 ≡ c.args.v.channels = omega (arith, c.requires.0.settings.scale.some, c.requires.0.settings.scale.most, c.if-v-eq1.false, c.if-v-eq2.false, c.if-v-eq3.false) in
+    record { value = place_four (edges_of c.args.width c.args.down (frame c.args.v (frames_in c.args.n c.args.v.channels c.args.points.now) c.args.i)) c.edge-a.result c.edge-b.result c.edge-c.result c.edge-d.result (edges_long c.requires.0 c.args.i c.requires.1 c.args.width c.args.down ∙ sym d) (edge_at c.requires.0 c.args.i c.requires.1 c.args.width c.args.down 0 _ c.edge-a.result c.requires.0.settings.scale.some (sym (add-zero _)) (record { sfits = c.edge-arg-1.given }) c.edge-a.ensures.value) (edge_at c.requires.0 c.args.i c.requires.1 c.args.width c.args.down 1 _ c.edge-b.result (omega (arith, c.requires.0.settings.scale.some, c.if-v-eq1.false)) refl (record { sfits = c.edge-arg-2-1.given }) c.edge-b.ensures.value) (edge_at c.requires.0 c.args.i c.requires.1 c.args.width c.args.down 2 _ c.edge-c.result (omega (arith, c.requires.0.settings.scale.some, c.if-v-eq1.false, c.if-v-eq2.false)) refl (record { sfits = c.edge-arg-3-1.given }) c.edge-c.ensures.value) (edge_at c.requires.0 c.args.i c.requires.1 c.args.width c.args.down 3 _ c.edge-d.result (omega (arith, c.requires.0.settings.scale.some, c.if-v-eq1.false, c.if-v-eq2.false, c.if-v-eq3.false)) refl (record { sfits = c.edge-arg-4-1.given }) c.edge-d.ensures.value); below = four_below 65536 _ _ _ _ c.edge-a.ensures.upper_bound c.edge-b.ensures.upper_bound c.edge-c.ensures.upper_bound c.edge-d.ensures.upper_bound }

@@ -8,7 +8,9 @@ use borrow.Author.Rules.{rules}
 use Rattle.blocks.proofs.spread.Goals as goal
 
 pub overflow_mul-result : goal.overflow_mul-result
-overflow_mul-result c = let z : c.args.x * c.args.x ≤ 1048576 * 1048576 = mul-le-mul {n₂ = 1048576} {m₂ = 1048576} (omega (arith, c.requires)) (omega (arith, c.requires)) in record { fits = omega (arith, z) }
+overflow_mul-result c =
+    let z : c.args.x * c.args.x ≤ 1048576 * 1048576 = mul-le-mul {n₂ = 1048576} {m₂ = 1048576} (omega (arith, c.requires)) (omega (arith, c.requires)) in
+    record { fits = omega (arith, z) }
 
 pub returns : goal.returns
 unfolding spread

@@ -17,7 +17,9 @@ pub word-requires-2 : goal.word-requires-2
 word-requires-2 c = (listed_fits (c.requires.ready, c.requires.c_in_bounds)).1
 
 pub near_cells-requires : goal.near_cells-requires
-near_cells-requires c = let b = listed_below (c.requires.ready, c.requires.c_in_bounds) c.word.ensures c.word-2.ensures in (c.requires.ready.0, b.0, b.1)
+near_cells-requires c =
+    let b = listed_below (c.requires.ready, c.requires.c_in_bounds) c.word.ensures c.word-2.ensures in
+    (c.requires.ready.0, b.0, b.1)
 
 pub returns : goal.returns
 returns c = c.near_cells.ensures ∙ listed_is (c.requires.ready, c.requires.c_in_bounds) c.word.ensures c.word-2.ensures

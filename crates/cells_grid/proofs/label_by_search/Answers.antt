@@ -11,7 +11,9 @@ pub loop-i-init : goal.loop-i-init
 loop-i-init c = bits_start c.requires.0
 
 pub core_frame-b-requires : goal.core_frame-b-requires
-core_frame-b-requires c = let L = bits_laid c.requires.0 c.loop-i.invariant in record { ready = (c.requires.0.ready, bits_arranged c.requires.0 c.loop-i.invariant c.requires.2, c.loop-i-test.true); counts = (c.requires.1, L.sorted, L.fit) }
+core_frame-b-requires c =
+    let L = bits_laid c.requires.0 c.loop-i.invariant in
+    record { ready = (c.requires.0.ready, bits_arranged c.requires.0 c.loop-i.invariant c.requires.2, c.loop-i-test.true); counts = (c.requires.1, L.sorted, L.fit) }
 
 pub overflow_mul-work : goal.overflow_mul-work
 overflow_mul-work c = omega (arith, c.requires.0.ready.few)

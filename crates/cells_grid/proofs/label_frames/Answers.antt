@@ -12,7 +12,9 @@ pub sort_frames-requires : goal.sort_frames-requires
 sort_frames-requires c = label_sort c.args.work.now c.requires
 
 pub sparse-requires : goal.sparse-requires
-sparse-requires c = let L = label_laid c.args.work.now c.requires c.sort_frames.ensures in record { n_bound = (L.ready.few, L.fit); by_index = ends_rise L.sorted }
+sparse-requires c =
+    let L = label_laid c.args.work.now c.requires c.sort_frames.ensures in
+    record { n_bound = (L.ready.few, L.fit); by_index = ends_rise L.sorted }
 
 pub label_by_pairs-requires : goal.label_by_pairs-requires
 label_by_pairs-requires c = (label_laid c.args.work.now c.requires c.sort_frames.ensures, c.read_counts-read.ensures.1, c.requires.1.count, label_clear c.args.work.now c.requires c.sort_frames.ensures)

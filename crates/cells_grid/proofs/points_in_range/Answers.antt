@@ -34,11 +34,13 @@ pub overflow_add-m : goal.overflow_add-m
 overflow_add-m c = omega (arith, c.loop-p.invariant.low)
 
 pub loop-p-preserved-then-within : goal.loop-p-preserved-then-within
-loop-p-preserved-then-within c =     let i = c.loop-p.invariant in
+loop-p-preserved-then-within c =
+    let i = c.loop-p.invariant in
     scan_hit i c.loop-p-test.true c.word-j.ensures (sym c.within.ensures ∙ c.if-within.true)
 
 pub loop-p-preserved : goal.loop-p-preserved
-loop-p-preserved c =     let i = c.loop-p.invariant in
+loop-p-preserved c =
+    let i = c.loop-p.invariant in
     scan_miss i c.loop-p-test.true c.word-j.ensures (sym c.within.ensures ∙ c.if-within.false)
 
 pub returns : goal.returns

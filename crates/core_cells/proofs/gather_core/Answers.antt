@@ -47,4 +47,6 @@ pub shape_of-work : goal.shape_of-work
 shape_of-work c = gathering_length c.loop-p.invariant
 
 pub returns : goal.returns
-returns c =  let z = gathering_end c.loop-p.invariant c.loop-p-test.false in record { value = z.0; work_after = z.1 }
+returns c =
+    let z = gathering_end c.loop-p.invariant c.loop-p-test.false in
+    record { value = z.0; work_after = z.1 }

@@ -11,7 +11,8 @@ pub word-from-requires : goal.word-from-requires
 word-from-requires c = omega (arith, cell_order c.requires.0 c.requires.1 c.requires.2)
 
 pub cell_end-end-requires : goal.cell_end-end-requires
-cell_end-end-requires c =     let o = cell_order c.requires.0 c.requires.1 c.requires.2 in
+cell_end-end-requires c =
+    let o = cell_order c.requires.0 c.requires.1 c.requires.2 in
     (o.0, o.1, o.2)
 
 pub read_frames-requires : goal.read_frames-requires

@@ -13,7 +13,9 @@ pub word-requires : goal.word-requires
 word-requires c = omega (arith, word_inside c.requires.0 c.requires.1 c.requires.2)
 
 pub frame_at-first-requires : goal.frame_at-first-requires
-frame_at-first-requires c =  let z = first_inside c.requires.0 c.requires.1 c.requires.2 c.word.ensures in record { channels = z.0; inside = z.1 }
+frame_at-first-requires c =
+    let z = first_inside c.requires.0 c.requires.1 c.requires.2 c.word.ensures in
+    record { channels = z.0; inside = z.1 }
 
 pub box_of-requires : goal.box_of-requires
 box_of-requires c = record { side = ready_side c.requires.0 0 _ c.base_side-side.ensures (omega arith); channels = c.requires.0.settings.scale.most }

@@ -9,16 +9,24 @@ use borrow.Author.Rules.{rules}
 use Rattle.desk.proofs.run.Goals as goal
 
 pub overflow_mul-n : goal.overflow_mul-n
-overflow_mul-n c = let sizes_at : Frames c.frame_count-frames.result c.channels-d.result = sizes c.args.input.now c.requires.whole c.frame_count-frames.ensures c.channels-d.ensures.value in record { fits = omega (arith, sizes_at.counts) }
+overflow_mul-n c =
+    let sizes_at : Frames c.frame_count-frames.result c.channels-d.result = sizes c.args.input.now c.requires.whole c.frame_count-frames.ensures c.channels-d.ensures.value in
+    record { fits = omega (arith, sizes_at.counts) }
 
 pub read_points-requires : goal.read_points-requires
-read_points-requires c = let sizes_at : Frames c.frame_count-frames.result c.channels-d.result = sizes c.args.input.now c.requires.whole c.frame_count-frames.ensures c.channels-d.ensures.value in omega (arith, sizes_at)
+read_points-requires c =
+    let sizes_at : Frames c.frame_count-frames.result c.channels-d.result = sizes c.args.input.now c.requires.whole c.frame_count-frames.ensures c.channels-d.ensures.value in
+    omega (arith, sizes_at)
 
 pub slice_bounds-points-end : goal.slice_bounds-points-end
-slice_bounds-points-end c = let sizes_at : Frames c.frame_count-frames.result c.channels-d.result = sizes c.args.input.now c.requires.whole c.frame_count-frames.ensures c.channels-d.ensures.value in omega (arith, sizes_at, c.read_points.auto.points)
+slice_bounds-points-end c =
+    let sizes_at : Frames c.frame_count-frames.result c.channels-d.result = sizes c.args.input.now c.requires.whole c.frame_count-frames.ensures c.channels-d.ensures.value in
+    omega (arith, sizes_at, c.read_points.auto.points)
 
 pub slice_bounds-transform-end : goal.slice_bounds-transform-end
-slice_bounds-transform-end c = let sizes_at : Frames c.frame_count-frames.result c.channels-d.result = sizes c.args.input.now c.requires.whole c.frame_count-frames.ensures c.channels-d.ensures.value in sym (length-take-le _ _ (omega (arith, sizes_at, c.read_points.auto.points)))
+slice_bounds-transform-end c =
+    let sizes_at : Frames c.frame_count-frames.result c.channels-d.result = sizes c.args.input.now c.requires.whole c.frame_count-frames.ensures c.channels-d.ensures.value in
+    sym (length-take-le _ _ (omega (arith, sizes_at, c.read_points.auto.points)))
 
 pub put_outcome-requires : goal.put_outcome-requires
 put_outcome-requires c =

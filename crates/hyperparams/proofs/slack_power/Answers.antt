@@ -29,4 +29,6 @@ unfolding of_bits of_int
 loop-s-preserved c = (omega arith, ap (λ (p : ℕ). p * 2) c.loop-s.invariant.1 ∙ rw (add-one, pow-suc), sym (step c.args.slack c.loop-s.s c.loop-s.power false (omega arith) c.loop-s.invariant.1 c.if-slack-power.false) ∙ c.loop-s.invariant.2)
 
 pub returns : goal.returns
-returns c = let e : c.loop-s.s ≡ 11 = omega arith in subst (λ (s : ℕ). slack_from (11 - s) s c.args.slack ≡ slack_power c.args.slack) e c.loop-s.invariant.2
+returns c =
+    let e : c.loop-s.s ≡ 11 = omega arith in
+    subst (λ (s : ℕ). slack_from (11 - s) s c.args.slack ≡ slack_power c.args.slack) e c.loop-s.invariant.2

@@ -5,7 +5,9 @@ use Rattle.hyperparams.proofs.whole_tolerance.Goals as goal
 
 pub truncating_f64_to_u64-t-requires : goal.truncating_f64_to_u64-t-requires
 unfolding of_bits
-truncating_f64_to_u64-t-requires c = let i = inside c.args.tolerance c.if-tolerance.true c.if-tolerance-2.true in record { lower_bound = i.over_minus_one; upper_bound = i.under_width }
+truncating_f64_to_u64-t-requires c =
+    let i = inside c.args.tolerance c.if-tolerance.true c.if-tolerance-2.true in
+    record { lower_bound = i.over_minus_one; upper_bound = i.under_width }
 
 pub int_to_float-t : goal.int_to_float-t
 unfolding of_bits

@@ -27,4 +27,6 @@ pub overflow_add-result-2 : goal.overflow_add-result-2
 overflow_add-result-2 c = omega (arith, digits_below c.args.f c.requires.0 c.requires.1 c.all_digits-s.result c.requires.2 c.all_digits-s.ensures)
 
 pub returns : goal.returns
-returns c =     let b = digits_below c.args.f c.requires.0 c.requires.1 c.all_digits-s.result c.requires.2 c.all_digits-s.ensures in record { value = bits_of_root c.args.f c.requires.0 c.requires.1 c.all_digits-s.result c.requires.2 c.all_digits-s.ensures; finite = omega arith }
+returns c =
+    let b = digits_below c.args.f c.requires.0 c.requires.1 c.all_digits-s.result c.requires.2 c.all_digits-s.ensures in
+    record { value = bits_of_root c.args.f c.requires.0 c.requires.1 c.all_digits-s.result c.requires.2 c.all_digits-s.ensures; finite = omega arith }

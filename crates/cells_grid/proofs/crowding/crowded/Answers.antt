@@ -49,7 +49,9 @@ pub bounds-hashes-m : goal.bounds-hashes-m
 bounds-hashes-m c = omega (arith, c.turned-m.ensures.upper_bound, c.row_count-rows.ensures, few_rows c.requires.ready.0)
 
 pub count_row-more-requires : goal.count_row-more-requires
-count_row-more-requires c = let R = rows_of c.requires.ready.0 c.requires.ready.2 c.width-w.ensures refl (c.edges_at-first.ensures.value, c.edges_at-first.ensures.below) in record { ready = (c.requires.ready.0, c.requires.arranged.0, c.requires.ready.2, first_is c.requires.ready.0 c.requires.arranged.0 c.requires.ready.2 c.word-c.ensures c.word-own.ensures); first_value = (R.begin, R.small); h_value = (rows_hash R c.width-w.ensures c.row_hashes-hashes.ensures.value c.turned-m.result (omega (arith, c.turned-m.ensures.upper_bound, c.row_count-rows.ensures)), ap (λ (w : ℕ). get_or c.edges_at-first.result 0 0 / w) c.width-w.ensures ∙ rows_along R); count_bound = (omega (arith, c.loop-r.invariant.low, at_least c.args.v c.args.n c.args.points.now), c.requires.arranged.2, c.requires.arranged.1) }
+count_row-more-requires c =
+    let R = rows_of c.requires.ready.0 c.requires.ready.2 c.width-w.ensures refl (c.edges_at-first.ensures.value, c.edges_at-first.ensures.below) in
+    record { ready = (c.requires.ready.0, c.requires.arranged.0, c.requires.ready.2, first_is c.requires.ready.0 c.requires.arranged.0 c.requires.ready.2 c.word-c.ensures c.word-own.ensures); first_value = (R.begin, R.small); h_value = (rows_hash R c.width-w.ensures c.row_hashes-hashes.ensures.value c.turned-m.result (omega (arith, c.turned-m.ensures.upper_bound, c.row_count-rows.ensures)), ap (λ (w : ℕ). get_or c.edges_at-first.result 0 0 / w) c.width-w.ensures ∙ rows_along R); count_bound = (omega (arith, c.loop-r.invariant.low, at_least c.args.v c.args.n c.args.points.now), c.requires.arranged.2, c.requires.arranged.1) }
 
 pub returns-then-more-v : goal.returns-then-more-v
 returns-then-more-v c = rows_stop c.requires.ready.0 c.requires.ready.1 c.requires.ready.2 c.own_row-start.ensures.upper_bound c.loop-r.invariant (omega (arith, c.loop-r-test.true, c.row_count-rows.ensures)) (c.count_row-more.ensures ∙ ap₂ (λ (a b : ℕ). min a (c.loop-r.count + neighbours_in c.args.v c.args.n c.args.points.now c.args.i b)) (sym (at_least c.args.v c.args.n c.args.points.now)) (c.turned-m.ensures.value ∙ ap (λ (a : ℕ). (c.own_row-start.result + c.loop-r.r) % a) c.row_count-rows.ensures)) c.if-more-v.true

@@ -29,8 +29,10 @@ overflow_add-c c = search rules
 -- @After-own-row = c
 
 pub list_rows-requires : goal.list_rows-requires
-list_rows-requires c = let own_is : c.own_row-start.result ≡ own_row (reach_of c.args.v) c.args.v c.args.n c.args.points.now c.word-i.result = c.own_row-start.ensures.value ∙ ap (λ (z : ℕ). own_block z (drop 1 c.first_row-first.result) (drop 1 (frame_at (reach_of c.args.v) c.args.v c.args.n c.args.points.now c.word-i.result))) c.width.ensures
-    ∙ rows_own (record { ready = c.requires.ready.0; below = first_low c.requires.ready.0 c.requires.ready.1 c.requires.ready.3 c.word-i.ensures; begin = c.first_row-first.ensures.value; small = c.first_row-first.ensures.below }) in record { ready = (c.requires.ready.0, first_low c.requires.ready.0 c.requires.ready.1 c.requires.ready.3 c.word-i.ensures, c.first_row-first.ensures.value, c.first_row-first.ensures.below); arranged = (c.requires.ready.1, c.requires.ready.2, c.requires.ready.4, c.requires.ready.5); k_nonzero = (omega (arith, c.requires.ready.3), c.own_row-start.ensures.upper_bound, later_few c.requires.ready.0 c.requires.ready.1 c.requires.ready.3 c.word-i.ensures own_is); marked_runs = c.requires.marked_runs }
+list_rows-requires c =
+    let own_is : c.own_row-start.result ≡ own_row (reach_of c.args.v) c.args.v c.args.n c.args.points.now c.word-i.result = c.own_row-start.ensures.value ∙ ap (λ (z : ℕ). own_block z (drop 1 c.first_row-first.result) (drop 1 (frame_at (reach_of c.args.v) c.args.v c.args.n c.args.points.now c.word-i.result))) c.width.ensures
+    ∙ rows_own (record { ready = c.requires.ready.0; below = first_low c.requires.ready.0 c.requires.ready.1 c.requires.ready.3 c.word-i.ensures; begin = c.first_row-first.ensures.value; small = c.first_row-first.ensures.below }) in
+    record { ready = (c.requires.ready.0, first_low c.requires.ready.0 c.requires.ready.1 c.requires.ready.3 c.word-i.ensures, c.first_row-first.ensures.value, c.first_row-first.ensures.below); arranged = (c.requires.ready.1, c.requires.ready.2, c.requires.ready.4, c.requires.ready.5); k_nonzero = (omega (arith, c.requires.ready.3), c.own_row-start.ensures.upper_bound, later_few c.requires.ready.0 c.requires.ready.1 c.requires.ready.3 c.word-i.ensures own_is); marked_runs = c.requires.marked_runs }
 
 pub shape_of-work : goal.shape_of-work
 shape_of-work c = search rules
@@ -38,5 +40,8 @@ shape_of-work c = search rules
 -- @After-own-row = c
 
 pub returns : goal.returns
-returns c = let own_is : c.own_row-start.result ≡ own_row (reach_of c.args.v) c.args.v c.args.n c.args.points.now c.word-i.result = c.own_row-start.ensures.value ∙ ap (λ (z : ℕ). own_block z (drop 1 c.first_row-first.result) (drop 1 (frame_at (reach_of c.args.v) c.args.v c.args.n c.args.points.now c.word-i.result))) c.width.ensures
-    ∙ rows_own (record { ready = c.requires.ready.0; below = first_low c.requires.ready.0 c.requires.ready.1 c.requires.ready.3 c.word-i.ensures; begin = c.first_row-first.ensures.value; small = c.first_row-first.ensures.below }) in let z = by_name c.args.work.now c.args.marks c.args.mark (15 * c.args.n) (later_rows c.requires.ready.0 c.requires.ready.1 c.requires.ready.3 c.word-i.ensures own_is) (c.list_rows.ensures.value, c.list_rows.ensures.work_after) in record { value = z.0; work_after = z.1 }
+returns c =
+    let own_is : c.own_row-start.result ≡ own_row (reach_of c.args.v) c.args.v c.args.n c.args.points.now c.word-i.result = c.own_row-start.ensures.value ∙ ap (λ (z : ℕ). own_block z (drop 1 c.first_row-first.result) (drop 1 (frame_at (reach_of c.args.v) c.args.v c.args.n c.args.points.now c.word-i.result))) c.width.ensures
+    ∙ rows_own (record { ready = c.requires.ready.0; below = first_low c.requires.ready.0 c.requires.ready.1 c.requires.ready.3 c.word-i.ensures; begin = c.first_row-first.ensures.value; small = c.first_row-first.ensures.below }) in
+    let z = by_name c.args.work.now c.args.marks c.args.mark (15 * c.args.n) (later_rows c.requires.ready.0 c.requires.ready.1 c.requires.ready.3 c.word-i.ensures own_is) (c.list_rows.ensures.value, c.list_rows.ensures.work_after) in
+    record { value = z.0; work_after = z.1 }

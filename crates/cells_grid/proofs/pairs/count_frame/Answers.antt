@@ -47,7 +47,9 @@ pub bounds-hashes-m : goal.bounds-hashes-m
 bounds-hashes-m c = omega (arith, c.loop-m-test.true, c.row_count-rows.ensures, few_rows c.requires.0.ready)
 
 pub count_row-sum-requires : goal.count_row-sum-requires
-count_row-sum-requires c = let R = (rows_of c.requires.0.ready c.requires.2 c.width-w.ensures refl (c.edges_at-first.ensures.value, c.edges_at-first.ensures.below)) in record { laid = (frame_laid c.requires.0 c.requires.1 c.requires.2 c.requires.3 c.loop-m.invariant, R, first_is c.requires.0.ready c.requires.0.arranged c.requires.2 c.word-c.ensures c.word-own.ensures); h_value = (rows_hash R c.width-w.ensures c.row_hashes-hashes.ensures.value c.loop-m.m (omega (arith, c.loop-m-test.true, c.row_count-rows.ensures)), ap (λ (w : ℕ). get_or c.edges_at-first.result 0 0 / w) c.width-w.ensures ∙ rows_along R); room = frame_room c.requires.0 c.requires.1 c.requires.2 c.requires.3 c.loop-m.invariant (omega (arith, c.loop-m-test.true, c.row_count-rows.ensures)) }
+count_row-sum-requires c =
+    let R = (rows_of c.requires.0.ready c.requires.2 c.width-w.ensures refl (c.edges_at-first.ensures.value, c.edges_at-first.ensures.below)) in
+    record { laid = (frame_laid c.requires.0 c.requires.1 c.requires.2 c.requires.3 c.loop-m.invariant, R, first_is c.requires.0.ready c.requires.0.arranged c.requires.2 c.word-c.ensures c.word-own.ensures); h_value = (rows_hash R c.width-w.ensures c.row_hashes-hashes.ensures.value c.loop-m.m (omega (arith, c.loop-m-test.true, c.row_count-rows.ensures)), ap (λ (w : ℕ). get_or c.edges_at-first.result 0 0 / w) c.width-w.ensures ∙ rows_along R); room = frame_room c.requires.0 c.requires.1 c.requires.2 c.requires.3 c.loop-m.invariant (omega (arith, c.loop-m-test.true, c.row_count-rows.ensures)) }
 
 pub overflow_add-sum : goal.overflow_add-sum
 overflow_add-sum c = omega (arith, c.requires.0.ready.few, frame_sum c.requires.0 c.requires.1 c.requires.2 c.requires.3 c.loop-m.invariant (omega (arith, c.loop-m-test.true, c.row_count-rows.ensures)) c.count_row-sum.ensures.value)

@@ -22,15 +22,18 @@ pub word-c-requires : goal.word-c-requires
 word-c-requires c =                 omega (arith, few_listed (c.requires.ready, c.requires.cells_sorted) c.word-own.ensures (c.list_cells-m.ensures.value, c.list_cells-m.ensures.work_after), room_listed (c.requires.ready, c.requires.cells_sorted) c.word-own.ensures (c.list_cells-m.ensures.value, c.list_cells-m.ensures.work_after))
 
 pub frames_first-first-requires : goal.frames_first-first-requires
-frames_first-first-requires c =                 let z = can_ask (c.requires.ready, c.requires.cells_sorted) c.word-own.ensures (c.list_cells-m.ensures.value, c.list_cells-m.ensures.work_after) c.loop-j-test.true c.word-c.ensures in
+frames_first-first-requires c =
+    let z = can_ask (c.requires.ready, c.requires.cells_sorted) c.word-own.ensures (c.list_cells-m.ensures.value, c.list_cells-m.ensures.work_after) c.loop-j-test.true c.word-c.ensures in
     can_order z.0 z.1 z.3
 
 pub root_unless-root-requires : goal.root_unless-root-requires
-root_unless-root-requires c =                 let z = can_ask (c.requires.ready, c.requires.cells_sorted) c.word-own.ensures (c.list_cells-m.ensures.value, c.list_cells-m.ensures.work_after) c.loop-j-test.true c.word-c.ensures in
+root_unless-root-requires c =
+    let z = can_ask (c.requires.ready, c.requires.cells_sorted) c.word-own.ensures (c.list_cells-m.ensures.value, c.list_cells-m.ensures.work_after) c.loop-j-test.true c.word-c.ensures in
     (z.0, z.1, z.3)
 
 pub reaches-requires : goal.reaches-requires
-reaches-requires c =                 let z = can_ask (c.requires.ready, c.requires.cells_sorted) c.word-own.ensures (c.list_cells-m.ensures.value, c.list_cells-m.ensures.work_after) c.loop-j-test.true c.word-c.ensures in
+reaches-requires c =
+    let z = can_ask (c.requires.ready, c.requires.cells_sorted) c.word-own.ensures (c.list_cells-m.ensures.value, c.list_cells-m.ensures.work_after) c.loop-j-test.true c.word-c.ensures in
     (z.0, z.1, z.2, z.3, c.root_unless-root.ensures)
 
 pub loop-j-preserved-then-reaches : goal.loop-j-preserved-then-reaches
@@ -49,4 +52,6 @@ pub shape_of-work : goal.shape_of-work
 shape_of-work c =                 ap length (listed_cleared (c.requires.ready, c.requires.cells_sorted) c.word-own.ensures (c.list_cells-m.ensures.value, c.list_cells-m.ensures.work_after) c.clear_words.ensures)
 
 pub returns : goal.returns
-returns c =                 let z = lowest_border (c.requires.ready, c.requires.cells_sorted) c.word-own.ensures (c.list_cells-m.ensures.value, c.list_cells-m.ensures.work_after) c.loop-j.invariant c.loop-j-test.false in record { cell = z.0; low = z.1; work = listed_cleared (c.requires.ready, c.requires.cells_sorted) c.word-own.ensures (c.list_cells-m.ensures.value, c.list_cells-m.ensures.work_after) c.clear_words.ensures }
+returns c =
+    let z = lowest_border (c.requires.ready, c.requires.cells_sorted) c.word-own.ensures (c.list_cells-m.ensures.value, c.list_cells-m.ensures.work_after) c.loop-j.invariant c.loop-j-test.false in
+    record { cell = z.0; low = z.1; work = listed_cleared (c.requires.ready, c.requires.cells_sorted) c.word-own.ensures (c.list_cells-m.ensures.value, c.list_cells-m.ensures.work_after) c.clear_words.ensures }

@@ -13,8 +13,10 @@ pub loop-i-init : goal.loop-i-init
 loop-i-init c = columns_start (omega arith) (omega arith)
 
 pub label_frame-f-requires : goal.label_frame-f-requires
-label_frame-f-requires c =             let z = columns_search c.requires.ready.0 c.loop-i.invariant (c.requires.ready.1, c.requires.cells_sorted) in
-    let e = columns_under c.loop-i.invariant (7 * c.args.n) c.args.k (omega (arith, few_cells c.requires.ready.0 c.requires.ready.1)) in record { ready = (c.requires.ready.0, z.0, c.loop-i-test.true); cells_sorted = z.1; m_value = (c.requires.m_value.0, e ∙ c.requires.m_value.1) }
+label_frame-f-requires c =
+    let z = columns_search c.requires.ready.0 c.loop-i.invariant (c.requires.ready.1, c.requires.cells_sorted) in
+    let e = columns_under c.loop-i.invariant (7 * c.args.n) c.args.k (omega (arith, few_cells c.requires.ready.0 c.requires.ready.1)) in
+    record { ready = (c.requires.ready.0, z.0, c.loop-i-test.true); cells_sorted = z.1; m_value = (c.requires.m_value.0, e ∙ c.requires.m_value.1) }
 
 pub bounds-work-n : goal.bounds-work-n
 bounds-work-n c = omega (arith, columns_length c.loop-i.invariant, ap length c.label_frame-f.ensures.work)

@@ -27,17 +27,20 @@ loop-c-preserved-then-lowest-c c = number_own c.loop-c.invariant c.loop-c-test.t
     c.is_core_cell.ensures c.if-is_core_cell.true c.word-lowest.ensures c.if-lowest-c.true
 
 pub overflow_add-work : goal.overflow_add-work
-overflow_add-work c =     let l = lowest_low c.loop-c.invariant c.loop-c-test.true
+overflow_add-work c =
+    let l = lowest_low c.loop-c.invariant c.loop-c-test.true
     c.is_core_cell.ensures c.if-is_core_cell.true c.word-lowest.ensures in
     omega arith
 
 pub offset_bounds-work-n : goal.offset_bounds-work-n
-offset_bounds-work-n c =     let l = lowest_low c.loop-c.invariant c.loop-c-test.true
+offset_bounds-work-n c =
+    let l = lowest_low c.loop-c.invariant c.loop-c-test.true
     c.is_core_cell.ensures c.if-is_core_cell.true c.word-lowest.ensures in
     omega arith
 
 pub bounds-work-n : goal.bounds-work-n
-bounds-work-n c =     let l = lowest_low c.loop-c.invariant c.loop-c-test.true
+bounds-work-n c =
+    let l = lowest_low c.loop-c.invariant c.loop-c-test.true
     c.is_core_cell.ensures c.if-is_core_cell.true c.word-lowest.ensures in
     omega (arith, fill_length c.loop-c.invariant.fill)
 
@@ -59,4 +62,6 @@ pub shape_of-work : goal.shape_of-work
 shape_of-work c = fill_length c.loop-c.invariant.fill
 
 pub returns : goal.returns
-returns c =  let z = numbered_end c.loop-c.invariant c.loop-c-test.false in record { count = z.0; work = z.1 }
+returns c =
+    let z = numbered_end c.loop-c.invariant c.loop-c-test.false in
+    record { count = z.0; work = z.1 }

@@ -8,7 +8,9 @@ pub returns-then-apart : goal.returns-then-apart
 returns-then-apart c =         link_none c.requires.0 c.requires.2 c.requires.3 (c.apart.ensures.tells c.if-apart.true)
 
 pub by_turns-requires : goal.by_turns-requires
-by_turns-requires c =  let z = can_turn c.requires.0 c.requires.1 c.requires.2 c.requires.3 c.target_of-a.ensures.cell c.target_of-a.ensures.root c.target_of-b.ensures.cell c.target_of-b.ensures.root in record { ready = z.0; cell_lt_k = z.1.0; cell_lt_k_2 = z.1.1 }
+by_turns-requires c =
+    let z = can_turn c.requires.0 c.requires.1 c.requires.2 c.requires.3 c.target_of-a.ensures.cell c.target_of-a.ensures.root c.target_of-b.ensures.cell c.target_of-b.ensures.root in
+    record { ready = z.0; cell_lt_k = z.1.0; cell_lt_k_2 = z.1.1 }
 
 pub returns-then-by_turns : goal.returns-then-by_turns
 returns-then-by_turns c = link_early _ c.target_of-a.ensures.cell c.target_of-b.ensures.cell c.by_turns.ensures c.if-by_turns.true
@@ -23,7 +25,9 @@ pub returns-then-most-le-TURNS : goal.returns-then-most-le-TURNS
 returns-then-most-le-TURNS c =         link_few _ c.target_of-a.ensures.cell c.target_of-b.ensures.cell c.by_turns.ensures c.if-by_turns.false (size_held c.requires.0 c.requires.1 c.requires.2 c.size_of.ensures) (size_held c.requires.0 c.requires.1 c.requires.3 c.size_of-2.ensures) c.larger-most.ensures c.if-most-le-TURNS.true
 
 pub by_turns-requires-in-Intersecting : goal.by_turns-requires-in-Intersecting
-by_turns-requires-in-Intersecting c =  let z = can_turn c.requires.0 c.requires.1 c.requires.2 c.requires.3 c.target_of-a.ensures.cell c.target_of-a.ensures.root c.target_of-b.ensures.cell c.target_of-b.ensures.root in record { ready = z.0; cell_lt_k = z.1.0; cell_lt_k_2 = z.1.1 }
+by_turns-requires-in-Intersecting c =
+    let z = can_turn c.requires.0 c.requires.1 c.requires.2 c.requires.3 c.target_of-a.ensures.cell c.target_of-a.ensures.root c.target_of-b.ensures.cell c.target_of-b.ensures.root in
+    record { ready = z.0; cell_lt_k = z.1.0; cell_lt_k_2 = z.1.1 }
 
 pub returns-in-Disjoint : goal.returns-in-Disjoint
 returns-in-Disjoint c =         link_none c.requires.0 c.requires.2 c.requires.3 (c.in-Disjoint.ensures.apart refl)

@@ -16,7 +16,9 @@ pub same_set-requires : goal.same_set-requires
 same_set-requires c = can_ask (can_soon (c.requires.ready, c.requires.n_in_bounds))
 
 pub returns-then-same_set : goal.returns-then-same_set
-returns-then-same_set c =  let z = soon_asked (c.requires.ready, c.requires.n_in_bounds) c.same_set.ensures.leaders in record { others = z.0; leaders = z.1 }
+returns-then-same_set c =
+    let z = soon_asked (c.requires.ready, c.requires.n_in_bounds) c.same_set.ensures.leaders in
+    record { others = z.0; leaders = z.1 }
 
 pub is_soon_linked-requires : goal.is_soon_linked-requires
 is_soon_linked-requires c = (c.requires.ready.0, grown_still (can_soon (c.requires.ready, c.requires.n_in_bounds)) c.same_set.ensures.leaders (frames c.requires.ready.0 c.requires.ready.1) c.requires.ready.1, c.requires.ready.2, c.requires.ready.3)
@@ -28,7 +30,11 @@ pub union-requires : goal.union-requires
 union-requires c = can_unite (can_soon (c.requires.ready, c.requires.n_in_bounds)) c.same_set.ensures.leaders
 
 pub returns-then-is_soon_linked : goal.returns-then-is_soon_linked
-returns-then-is_soon_linked c =  let z = soon_united (c.requires.ready, c.requires.n_in_bounds) c.same_set.ensures.leaders c.union.ensures in record { others = z.0; leaders = z.1 }
+returns-then-is_soon_linked c =
+    let z = soon_united (c.requires.ready, c.requires.n_in_bounds) c.same_set.ensures.leaders c.union.ensures in
+    record { others = z.0; leaders = z.1 }
 
 pub returns-else-is_soon_linked : goal.returns-else-is_soon_linked
-returns-else-is_soon_linked c =  let z = soon_asked (c.requires.ready, c.requires.n_in_bounds) c.same_set.ensures.leaders in record { others = z.0; leaders = z.1 }
+returns-else-is_soon_linked c =
+    let z = soon_asked (c.requires.ready, c.requires.n_in_bounds) c.same_set.ensures.leaders in
+    record { others = z.0; leaders = z.1 }

@@ -28,10 +28,14 @@ pub overflow_mul-n-then-is_core_cell : goal.overflow_mul-n-then-is_core_cell
 overflow_mul-n-then-is_core_cell c = omega (arith, c.requires.ready.0.few)
 
 pub list_later-m-requires : goal.list_later-m-requires
-list_later-m-requires c =  let z = can_list c.requires.ready.0 c.loop-c.invariant c.loop-c-test.true _ in record { ready = z.0; marked_runs = z.1 }
+list_later-m-requires c =
+    let z = can_list c.requires.ready.0 c.loop-c.invariant c.loop-c-test.true _ in
+    record { ready = z.0; marked_runs = z.1 }
 
 pub asks_trees-ask-requires : goal.asks_trees-ask-requires
-asks_trees-ask-requires c =  let z = can_ask c.requires.ready.0 c.loop-c.invariant c.loop-c-test.true _ c.list_later-m.ensures.value c.list_later-m.ensures.work_after in record { ready = z.0; by_index = z.1 }
+asks_trees-ask-requires c =
+    let z = can_ask c.requires.ready.0 c.loop-c.invariant c.loop-c-test.true _ c.list_later-m.ensures.value c.list_later-m.ensures.work_after in
+    record { ready = z.0; by_index = z.1 }
 
 pub overflow_mul-n-then-is_core_cell-2 : goal.overflow_mul-n-then-is_core_cell-2
 overflow_mul-n-then-is_core_cell-2 c = omega (arith, c.requires.ready.0.few)

@@ -22,10 +22,14 @@ pub sort_cells-requires : goal.sort_cells-requires
 sort_cells-requires c = record { ready = (c.requires.0, c.requires.1.cored.cells, c.requires.2, c.requires.3); by_index = tree_held c.requires.0 c.requires.1 }
 
 pub unite_without_trees-requires : goal.unite_without_trees-requires
-unite_without_trees-requires c = let z = search₀ c.requires.0 c.requires.1 c.requires.2 c.requires.3 c.sort_cells.ensures in (c.requires.0, z.0, z.1.0, z.1.2, z.1.1)
+unite_without_trees-requires c =
+    let z = search₀ c.requires.0 c.requires.1 c.requires.2 c.requires.3 c.sort_cells.ensures in
+    (c.requires.0, z.0, z.1.0, z.1.2, z.1.1)
 
 pub some_ask-r-requires : goal.some_ask-r-requires
-some_ask-r-requires c =  let z = can_ask_some c.requires.0 c.requires.1 c.requires.2 c.requires.3 c.sort_cells.ensures c.unite_without_trees.ensures.others c.unite_without_trees.ensures.runs in record { ready = z.0; n_in_bounds = z.1 }
+some_ask-r-requires c =
+    let z = can_ask_some c.requires.0 c.requires.1 c.requires.2 c.requires.3 c.sort_cells.ensures c.unite_without_trees.ensures.others c.unite_without_trees.ensures.runs in
+    record { ready = z.0; n_in_bounds = z.1 }
 
 pub returns : goal.returns
 returns c = cleared c.requires.0 c.requires.1 c.requires.2 c.requires.3 c.sort_cells.ensures c.unite_without_trees.ensures.others c.some_ask-r.ensures c.clear_words.ensures

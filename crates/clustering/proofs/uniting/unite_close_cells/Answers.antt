@@ -15,15 +15,19 @@ pub loop-q-init : goal.loop-q-init
 loop-q-init c =         turns_start c.requires.ready.0 c.requires.ready.1 c.requires.ready.2 c.requires.n_in_bounds.0 c.requires.n_in_bounds.1 refl
 
 pub word-c-requires : goal.word-c-requires
-word-c-requires c =     let f = places_fit c.loop-q.invariant (omega (arith, c.loop-q-test.true, c.sorted_count-turns.ensures)) in
+word-c-requires c =
+    let f = places_fit c.loop-q.invariant (omega (arith, c.loop-q-test.true, c.sorted_count-turns.ensures)) in
     omega (arith, f.0)
 
 pub word-d-requires : goal.word-d-requires
-word-d-requires c =     let f = places_fit c.loop-q.invariant (omega (arith, c.loop-q-test.true, c.sorted_count-turns.ensures)) in
+word-d-requires c =
+    let f = places_fit c.loop-q.invariant (omega (arith, c.loop-q-test.true, c.sorted_count-turns.ensures)) in
     omega (arith, f.1)
 
 pub meet_close-requires : goal.meet_close-requires
-meet_close-requires c =             let l = cells_low c.loop-q.invariant (omega (arith, c.loop-q-test.true, c.sorted_count-turns.ensures)) c.word-c.ensures c.word-d.ensures in record { ready = (c.requires.ready.0, c.loop-q.invariant.leading.grown, l.0, l.1); n_in_bounds = (omega (arith, c.loop-q.invariant.leading.room, c.loop-q.invariant.leading.size), c.loop-q.invariant.leading.falling) }
+meet_close-requires c =
+    let l = cells_low c.loop-q.invariant (omega (arith, c.loop-q-test.true, c.sorted_count-turns.ensures)) c.word-c.ensures c.word-d.ensures in
+    record { ready = (c.requires.ready.0, c.loop-q.invariant.leading.grown, l.0, l.1); n_in_bounds = (omega (arith, c.loop-q.invariant.leading.room, c.loop-q.invariant.leading.size), c.loop-q.invariant.leading.falling) }
 
 pub loop-q-preserved : goal.loop-q-preserved
 loop-q-preserved c = turns_on c.loop-q.invariant (omega (arith, c.loop-q-test.true, c.sorted_count-turns.ensures)) c.word-c.ensures c.word-d.ensures c.meet_close.ensures

@@ -15,10 +15,14 @@ pub reset-requires : goal.reset-requires
 reset-requires c =         few_leaders c.requires.0 c.requires.1 (omega (arith, c.requires.3))
 
 pub unite_close_cells-requires : goal.unite_close_cells-requires
-unite_close_cells-requires c =  let z = can_unite_close c.requires.0 c.requires.1 (omega (arith, c.requires.3)) c.reset.ensures c.requires.2 c.requires.3 c.requires.4 in record { ready = z.0; n_in_bounds = z.1 }
+unite_close_cells-requires c =
+    let z = can_unite_close c.requires.0 c.requires.1 (omega (arith, c.requires.3)) c.reset.ensures c.requires.2 c.requires.3 c.requires.4 in
+    record { ready = z.0; n_in_bounds = z.1 }
 
 pub unite_lists-requires : goal.unite_lists-requires
-unite_lists-requires c =  let z = can_unite_lists c.requires.0 c.requires.1 (omega (arith, c.requires.3)) c.reset.ensures c.requires.2 c.requires.3 c.requires.4 c.unite_close_cells.ensures in record { ready = z.0; n_in_bounds = z.1 }
+unite_lists-requires c =
+    let z = can_unite_lists c.requires.0 c.requires.1 (omega (arith, c.requires.3)) c.reset.ensures c.requires.2 c.requires.3 c.requires.4 c.unite_close_cells.ensures in
+    record { ready = z.0; n_in_bounds = z.1 }
 
 pub slice_bounds-flatten-end : goal.slice_bounds-flatten-end
 slice_bounds-flatten-end c =         omega (arith, few_cells c.requires.0 c.requires.1, room_met c.requires.0 c.requires.1 (omega (arith, c.requires.3)) c.reset.ensures c.requires.2 c.requires.3 c.requires.4 c.unite_close_cells.ensures c.unite_lists.ensures.leaders c.unite_lists.ensures.others)

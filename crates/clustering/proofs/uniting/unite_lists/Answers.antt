@@ -14,7 +14,9 @@ pub stage_end-to-requires : goal.stage_end-to-requires
 stage_end-to-requires c = (c.loop-from-test.true, omega (arith, few_cells c.requires.ready.0 c.requires.ready.1, c.requires.ready.0.few))
 
 pub unite_stage-requires : goal.unite_stage-requires
-unite_stage-requires c =  let z = can_unite_stage c.requires.ready.0 c.requires.ready.1 c.loop-from.invariant c.mark_cells.ensures (omega (arith, c.stage_end-to.ensures)) in record { ready = z.0; n_in_bounds = z.1.0; to_le_k = z.1.1 }
+unite_stage-requires c =
+    let z = can_unite_stage c.requires.ready.0 c.requires.ready.1 c.loop-from.invariant c.mark_cells.ensures (omega (arith, c.stage_end-to.ensures)) in
+    record { ready = z.0; n_in_bounds = z.1.0; to_le_k = z.1.1 }
 
 pub loop-from-smaller : goal.loop-from-smaller
 loop-from-smaller c = omega (arith, c.stage_end-to.ensures)
@@ -26,4 +28,6 @@ pub shape_of-work : goal.shape_of-work
 shape_of-work c = c.loop-from.invariant.size
 
 pub returns : goal.returns
-returns c =  let z = stages_end c.requires.ready.0 c.requires.ready.1 c.loop-from.invariant c.loop-from-test.false in record { leaders = z.0; others = z.1 }
+returns c =
+    let z = stages_end c.requires.ready.0 c.requires.ready.1 c.loop-from.invariant c.loop-from-test.false in
+    record { leaders = z.0; others = z.1 }

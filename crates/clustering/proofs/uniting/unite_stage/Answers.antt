@@ -17,10 +17,14 @@ pub word-mark-requires : goal.word-mark-requires
 word-mark-requires c = mark_room c.requires.ready.0 c.requires.ready.1 c.loop-c.invariant.standing (row_cell c.requires.ready.0 c.requires.ready.1 c.loop-c.invariant c.loop-c-test.true)
 
 pub list_later-m-requires : goal.list_later-m-requires
-list_later-m-requires c =  let z = can_list c.requires.ready.0 c.requires.ready.1 c.loop-c.invariant.standing (row_cell c.requires.ready.0 c.requires.ready.1 c.loop-c.invariant c.loop-c-test.true) c.is_core_cell.ensures c.if-is_core_cell.true c.word-mark.ensures in record { ready = z.0; marked_runs = z.1 }
+list_later-m-requires c =
+    let z = can_list c.requires.ready.0 c.requires.ready.1 c.loop-c.invariant.standing (row_cell c.requires.ready.0 c.requires.ready.1 c.loop-c.invariant c.loop-c-test.true) c.is_core_cell.ensures c.if-is_core_cell.true c.word-mark.ensures in
+    record { ready = z.0; marked_runs = z.1 }
 
 pub unite_list-requires : goal.unite_list-requires
-unite_list-requires c =  let z = can_unite_list c.requires.ready.0 c.requires.ready.1 c.loop-c.invariant.standing (row_cell c.requires.ready.0 c.requires.ready.1 c.loop-c.invariant c.loop-c-test.true) c.is_core_cell.ensures c.if-is_core_cell.true c.word-mark.ensures c.list_later-m.ensures.value c.list_later-m.ensures.work_after in record { ready = z.0; n_in_bounds = z.1.0; by_index = z.1.1 }
+unite_list-requires c =
+    let z = can_unite_list c.requires.ready.0 c.requires.ready.1 c.loop-c.invariant.standing (row_cell c.requires.ready.0 c.requires.ready.1 c.loop-c.invariant c.loop-c-test.true) c.is_core_cell.ensures c.if-is_core_cell.true c.word-mark.ensures c.list_later-m.ensures.value c.list_later-m.ensures.work_after in
+    record { ready = z.0; n_in_bounds = z.1.0; by_index = z.1.1 }
 
 pub clear_words-requires : goal.clear_words-requires
 clear_words-requires c = can_clear_row c.requires.ready.0 c.requires.ready.1 c.loop-c.invariant c.loop-c-test.true c.is_core_cell.ensures c.if-is_core_cell.true c.word-mark.ensures c.list_later-m.ensures.value c.list_later-m.ensures.work_after c.unite_list.ensures

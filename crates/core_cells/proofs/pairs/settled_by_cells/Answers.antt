@@ -12,7 +12,8 @@ use Rattle.core_cells.proofs.Pairing.{cells_value, one_covered, cells_apart}
 use Rattle.core_cells.proofs.pairs.settled_by_cells.Goals as goal
 
 pub cell_end-end-requires : goal.cell_end-end-requires
-cell_end-end-requires c =     let o = cell_order c.requires.0 c.requires.1 c.requires.2 in
+cell_end-end-requires c =
+    let o = cell_order c.requires.0 c.requires.1 c.requires.2 in
     (o.0, o.1, o.2)
 
 pub overflow_mul-n : goal.overflow_mul-n
@@ -61,4 +62,6 @@ pub returns-then-unsettled : goal.returns-then-unsettled
 returns-then-unsettled c = record { value = cells_value c.requires c.word-p.ensures c.cell_end-end.ensures (ap (λ (b : Bool). cond b Intersecting Disjoint) (sym c.if-unsettled.true) ∙ joining_end c.loop-p.invariant c.loop-p-test.false); touches = λ e. open_not_covered e; apart = λ e. open_not_apart e }
 
 pub returns : goal.returns
-returns c =     let z = cells_value c.requires c.word-p.ensures c.cell_end-end.ensures (ap (λ (b : Bool). cond b Intersecting Disjoint) (sym c.if-unsettled.false) ∙ joining_end c.loop-p.invariant c.loop-p-test.false) in record { value = z; touches = λ e. apart_not_covered e; apart = λ e. cells_apart c.requires c.read_cell.ensures c.read_cell-2.ensures z }
+returns c =
+    let z = cells_value c.requires c.word-p.ensures c.cell_end-end.ensures (ap (λ (b : Bool). cond b Intersecting Disjoint) (sym c.if-unsettled.false) ∙ joining_end c.loop-p.invariant c.loop-p-test.false) in
+    record { value = z; touches = λ e. apart_not_covered e; apart = λ e. cells_apart c.requires c.read_cell.ensures c.read_cell-2.ensures z }

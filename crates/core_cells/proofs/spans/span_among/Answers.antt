@@ -30,4 +30,6 @@ pub loop-p-preserved : goal.loop-p-preserved
 loop-p-preserved c = (c.loop-p.invariant.0, spanning_step c.loop-p.invariant.1 c.loop-p-test.true c.word.ensures c.raised_at-counts.ensures.value c.lowest-lows.ensures c.highest-highs.ensures)
 
 pub returns : goal.returns
-returns c =         let e = spanning_end c.loop-p.invariant.1 c.loop-p-test.false in record { value = e; bound = low_ends (raised_at c.args.v c.args.n c.args.points.now) c.args.x (part c.args.work.now (3 * c.args.n + c.args.from) (c.args.to - c.args.from)) e c.raised_at-first.ensures.value c.raised_at-first.ensures.bound }
+returns c =
+    let e = spanning_end c.loop-p.invariant.1 c.loop-p-test.false in
+    record { value = e; bound = low_ends (raised_at c.args.v c.args.n c.args.points.now) c.args.x (part c.args.work.now (3 * c.args.n + c.args.from) (c.args.to - c.args.from)) e c.raised_at-first.ensures.value c.raised_at-first.ensures.bound }

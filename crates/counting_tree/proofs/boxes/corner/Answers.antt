@@ -18,7 +18,9 @@ pub loop-i-init : goal.loop-i-init
 loop-i-init c = (omega arith, c.well_formed.0.1.0.1, refl, fill_start (omega arith), refl)
 
 pub loop-i-preserved : goal.loop-i-preserved
-loop-i-preserved c =             let more = fill_step c.loop-i.invariant.3 (omega arith) in (
+loop-i-preserved c =
+    let more = fill_step c.loop-i.invariant.3 (omega arith) in
+    (
       c.loop-i.invariant.0,
       c.loop-i.invariant.1,
       c.loop-i.invariant.2,

@@ -16,12 +16,15 @@ use Rattle.counting_tree.proofs.boxes.farthest_corner.Goals.{then-far-sum, else-
 
 pub loop-k-init : goal.loop-k-init
 unfolding of_bits of_int
-loop-k-init c =     let h : c.args.channels ≤ 4 = omega arith in
+loop-k-init c =
+    let h : c.args.channels ≤ 4 = omega arith in
     (omega arith, c.corner_count-n.ensures, omega (arith, at_most_sixteen c.args.channels h, c.corner_count-n.ensures), h, c.well_formed.1.0.1.0.1, refl)
 
 pub loop-k-preserved : goal.loop-k-preserved
-loop-k-preserved c =             let n = c.corner_count-n.result in
-    let step = scan_step c.args.channels n (take c.args.channels c.args.q) c.args.all (omega arith) c.loop-k.far c.square_sum-sum.result c.if-far-sum.far c.loop-k.k in (
+loop-k-preserved c =
+    let n = c.corner_count-n.result in
+    let step = scan_step c.args.channels n (take c.args.channels c.args.q) c.args.all (omega arith) c.loop-k.far c.square_sum-sum.result c.if-far-sum.far c.loop-k.k in
+    (
       omega arith,
       c.loop-k.invariant.1,
       c.loop-k.invariant.2,
@@ -34,7 +37,8 @@ pub root-requires : goal.root-requires
 root-requires c = tt
 
 pub returns : goal.returns
-returns c =             let n = c.corner_count-n.result in
+returns c =
+    let n = c.corner_count-n.result in
     let qs = take c.args.channels c.args.q in
     let ls = map (take c.args.channels) (take n c.args.all) in
     c.root.ensures ∙ ap root (scan_done c.args.channels n qs c.args.all (omega arith) c.loop-k.far c.loop-k.k (omega arith) ∙ c.loop-k.invariant.5)

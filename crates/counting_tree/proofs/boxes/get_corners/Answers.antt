@@ -13,7 +13,8 @@ use Rattle.counting_tree.proofs.boxes.get_corners.Goals as goal
 
 pub loop-k-init : goal.loop-k-init
 unfolding of_bits of_int
-loop-k-init c =     let h : c.args.channels ≤ 4 = omega arith in
+loop-k-init c =
+    let h : c.args.channels ≤ 4 = omega arith in
     let s : c.corner_count-n.result ≤ 16 = omega (arith, at_most_sixteen c.args.channels h, c.corner_count-n.ensures) in
     (h, c.corner_count-n.ensures, s, c.half_side-e.ensures, refl, fill_start (omega arith))
 

@@ -10,7 +10,8 @@ use borrow.Author.Rules.{rules}
 use Rattle.counting_tree.proofs.points.frame_at.Goals as goal
 
 pub returns-then-channels-lt1 : goal.returns-then-channels-lt1
-returns-then-channels-lt1 c =             let past = count_past c.args.points.now (c.args.i * c.args.channels) c.args.channels in
+returns-then-channels-lt1 c =
+    let past = count_past c.args.points.now (c.args.i * c.args.channels) c.args.channels in
     four_placed _ _ _ _ _ (omega (arith, part_length c.args.points.now (c.args.i * c.args.channels) c.args.channels c.requires.inside))
     (past 0 c.requires.inside (omega arith))
     (past 1 c.requires.inside (omega arith))
@@ -18,7 +19,8 @@ returns-then-channels-lt1 c =             let past = count_past c.args.points.no
     (past 3 c.requires.inside (omega arith))
 
 pub returns-then-channels-lt2 : goal.returns-then-channels-lt2
-returns-then-channels-lt2 c =             let at = count_read c.args.points.now (c.args.i * c.args.channels) c.args.channels in
+returns-then-channels-lt2 c =
+    let at = count_read c.args.points.now (c.args.i * c.args.channels) c.args.channels in
     let past = count_past c.args.points.now (c.args.i * c.args.channels) c.args.channels in
     four_placed _ _ _ _ _ (omega (arith, part_length c.args.points.now (c.args.i * c.args.channels) c.args.channels c.requires.inside))
     (at 0 _ c.if-channels-lt1.false (sym (add-zero _)) c.a-1.given)
@@ -27,7 +29,8 @@ returns-then-channels-lt2 c =             let at = count_read c.args.points.now 
     (past 3 c.requires.inside (omega arith))
 
 pub returns-then-channels-lt3 : goal.returns-then-channels-lt3
-returns-then-channels-lt3 c =             let at = count_read c.args.points.now (c.args.i * c.args.channels) c.args.channels in
+returns-then-channels-lt3 c =
+    let at = count_read c.args.points.now (c.args.i * c.args.channels) c.args.channels in
     let past = count_past c.args.points.now (c.args.i * c.args.channels) c.args.channels in
     four_placed _ _ _ _ _ (omega (arith, part_length c.args.points.now (c.args.i * c.args.channels) c.args.channels c.requires.inside))
     (at 0 _ c.if-channels-lt1.false (sym (add-zero _)) c.a-1.given)
@@ -36,7 +39,8 @@ returns-then-channels-lt3 c =             let at = count_read c.args.points.now 
     (past 3 c.requires.inside (omega arith))
 
 pub returns-then-channels-lt4 : goal.returns-then-channels-lt4
-returns-then-channels-lt4 c =             let at = count_read c.args.points.now (c.args.i * c.args.channels) c.args.channels in
+returns-then-channels-lt4 c =
+    let at = count_read c.args.points.now (c.args.i * c.args.channels) c.args.channels in
     let past = count_past c.args.points.now (c.args.i * c.args.channels) c.args.channels in
     four_placed _ _ _ _ _ (omega (arith, part_length c.args.points.now (c.args.i * c.args.channels) c.args.channels c.requires.inside))
     (at 0 _ c.if-channels-lt1.false (sym (add-zero _)) c.a-1.given)
@@ -45,7 +49,8 @@ returns-then-channels-lt4 c =             let at = count_read c.args.points.now 
     (past 3 c.requires.inside (omega arith))
 
 pub returns : goal.returns
-returns c =             let at = count_read c.args.points.now (c.args.i * c.args.channels) c.args.channels in
+returns c =
+    let at = count_read c.args.points.now (c.args.i * c.args.channels) c.args.channels in
     four_placed _ _ _ _ _ (omega (arith, part_length c.args.points.now (c.args.i * c.args.channels) c.args.channels c.requires.inside))
     (at 0 _ c.if-channels-lt1.false (sym (add-zero _)) c.a-1.given)
     (at 1 _ c.if-channels-lt2.false refl c.b-1.given)

@@ -18,7 +18,8 @@ pub bounds-points-start : goal.bounds-points-start
 bounds-points-start c = (first_place c.requires.0 c.args.i c.requires.1).inside
 
 pub returns-then-v-lt2 : goal.returns-then-v-lt2
-returns-then-v-lt2 c =         let at = index_here c.requires.0 c.args.side c.requires.2 c.args.i c.requires.1 in
+returns-then-v-lt2 c =
+    let at = index_here c.requires.0 c.args.side c.requires.2 c.args.i c.requires.1 in
     let past = ys_past c.requires.0 c.args.side c.requires.2 c.args.i c.requires.1 in
     four_placed _ _ _ _ _ (ys_few c.requires.0 c.args.side c.requires.2 c.args.i c.requires.1)
     (at 0 _ (some_channels c.requires.0).0 (sym (add-zero _)) c.cell_index-arg-1.given c.cell_index-a.result c.cell_index-a.ensures)
@@ -36,7 +37,8 @@ pub bounds-points-start-2 : goal.bounds-points-start-2
 bounds-points-start-2 c = (place c.requires.0 c.args.i 1 _ c.requires.1 c.if-v-lt2.false refl).inside
 
 pub returns-then-v-lt3 : goal.returns-then-v-lt3
-returns-then-v-lt3 c =         let at = index_here c.requires.0 c.args.side c.requires.2 c.args.i c.requires.1 in
+returns-then-v-lt3 c =
+    let at = index_here c.requires.0 c.args.side c.requires.2 c.args.i c.requires.1 in
     let past = ys_past c.requires.0 c.args.side c.requires.2 c.args.i c.requires.1 in
     four_placed _ _ _ _ _ (ys_few c.requires.0 c.args.side c.requires.2 c.args.i c.requires.1)
     (at 0 _ (some_channels c.requires.0).0 (sym (add-zero _)) c.cell_index-arg-1.given c.cell_index-a.result c.cell_index-a.ensures)
@@ -54,7 +56,8 @@ pub bounds-points-start-3 : goal.bounds-points-start-3
 bounds-points-start-3 c = (place c.requires.0 c.args.i 2 _ c.requires.1 c.if-v-lt3.false refl).inside
 
 pub returns-then-v-lt4 : goal.returns-then-v-lt4
-returns-then-v-lt4 c =         let at = index_here c.requires.0 c.args.side c.requires.2 c.args.i c.requires.1 in
+returns-then-v-lt4 c =
+    let at = index_here c.requires.0 c.args.side c.requires.2 c.args.i c.requires.1 in
     let past = ys_past c.requires.0 c.args.side c.requires.2 c.args.i c.requires.1 in
     four_placed _ _ _ _ _ (ys_few c.requires.0 c.args.side c.requires.2 c.args.i c.requires.1)
     (at 0 _ (some_channels c.requires.0).0 (sym (add-zero _)) c.cell_index-arg-1.given c.cell_index-a.result c.cell_index-a.ensures)
@@ -72,7 +75,8 @@ pub bounds-points-start-4 : goal.bounds-points-start-4
 bounds-points-start-4 c = (place c.requires.0 c.args.i 3 _ c.requires.1 c.if-v-lt4.false refl).inside
 
 pub returns : goal.returns
-returns c =         let at = index_here c.requires.0 c.args.side c.requires.2 c.args.i c.requires.1 in
+returns c =
+    let at = index_here c.requires.0 c.args.side c.requires.2 c.args.i c.requires.1 in
     let past = ys_past c.requires.0 c.args.side c.requires.2 c.args.i c.requires.1 in
     four_placed _ _ _ _ _ (ys_few c.requires.0 c.args.side c.requires.2 c.args.i c.requires.1)
     (at 0 _ (some_channels c.requires.0).0 (sym (add-zero _)) c.cell_index-arg-1.given c.cell_index-a.result c.cell_index-a.ensures)

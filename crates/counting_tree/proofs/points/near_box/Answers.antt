@@ -21,10 +21,13 @@ bounds-points-start c = (first_place c.requires.0 c.args.j c.requires.1).inside
 
 pub returns-then-v-lt2 : goal.returns-then-v-lt2
 unfolding of_bits of_int reach
-returns-then-v-lt2 c =         let centre = c.args.place.centre in
+returns-then-v-lt2 c =
+    let centre = c.args.place.centre in
     let long = c.well_formed.1.1.1.0.1.1.0.1.0.1 in
     let most = add binary64 c.half_side-reach.result (float 1) in
-    let one = offs_first c.requires.0 c.args.j c.requires.1 most centre long _ refl c.off-arg-1.given c.off-one.result c.off-one.ensures.value in let z = offs_all c.requires.0 c.args.j c.requires.1 most centre long one (omega (arith, c.if-v-lt2.true)) (reach c.args.place.side) (ap (λ (x : Float). add binary64 x (float 1)) c.half_side-reach.ensures) in record { value = z.0; counts = z.1 }
+    let one = offs_first c.requires.0 c.args.j c.requires.1 most centre long _ refl c.off-arg-1.given c.off-one.result c.off-one.ensures.value in
+    let z = offs_all c.requires.0 c.args.j c.requires.1 most centre long one (omega (arith, c.if-v-lt2.true)) (reach c.args.place.side) (ap (λ (x : Float). add binary64 x (float 1)) c.half_side-reach.ensures) in
+    record { value = z.0; counts = z.1 }
 
 pub overflow_add-start : goal.overflow_add-start
 overflow_add-start c = (place c.requires.0 c.args.j 1 _ c.requires.1 c.if-v-lt2.false refl).fits
@@ -37,11 +40,14 @@ bounds-points-start-2 c = (place c.requires.0 c.args.j 1 _ c.requires.1 c.if-v-l
 
 pub returns-then-v-lt3 : goal.returns-then-v-lt3
 unfolding of_bits of_int reach
-returns-then-v-lt3 c =         let centre = c.args.place.centre in
+returns-then-v-lt3 c =
+    let centre = c.args.place.centre in
     let long = c.well_formed.1.1.1.0.1.1.0.1.0.1 in
     let most = add binary64 c.half_side-reach.result (float 1) in
     let one = offs_first c.requires.0 c.args.j c.requires.1 most centre long _ refl c.off-arg-1.given c.off-one.result c.off-one.ensures.value in
-    let two = offs_more c.requires.0 c.args.j c.requires.1 most centre long 1 _ c.if-v-lt2.false refl c.off-arg-2-1.given c.off.result c.off.ensures.value one in let z = offs_all c.requires.0 c.args.j c.requires.1 most centre long two (omega (arith, c.if-v-lt3.true)) (reach c.args.place.side) (ap (λ (x : Float). add binary64 x (float 1)) c.half_side-reach.ensures) in record { value = z.0; counts = z.1 }
+    let two = offs_more c.requires.0 c.args.j c.requires.1 most centre long 1 _ c.if-v-lt2.false refl c.off-arg-2-1.given c.off.result c.off.ensures.value one in
+    let z = offs_all c.requires.0 c.args.j c.requires.1 most centre long two (omega (arith, c.if-v-lt3.true)) (reach c.args.place.side) (ap (λ (x : Float). add binary64 x (float 1)) c.half_side-reach.ensures) in
+    record { value = z.0; counts = z.1 }
 
 pub overflow_add-start-2 : goal.overflow_add-start-2
 overflow_add-start-2 c = (place c.requires.0 c.args.j 2 _ c.requires.1 c.if-v-lt3.false refl).fits
@@ -54,12 +60,15 @@ bounds-points-start-3 c = (place c.requires.0 c.args.j 2 _ c.requires.1 c.if-v-l
 
 pub returns-then-v-lt4 : goal.returns-then-v-lt4
 unfolding of_bits of_int reach
-returns-then-v-lt4 c =         let centre = c.args.place.centre in
+returns-then-v-lt4 c =
+    let centre = c.args.place.centre in
     let long = c.well_formed.1.1.1.0.1.1.0.1.0.1 in
     let most = add binary64 c.half_side-reach.result (float 1) in
     let one = offs_first c.requires.0 c.args.j c.requires.1 most centre long _ refl c.off-arg-1.given c.off-one.result c.off-one.ensures.value in
     let two = offs_more c.requires.0 c.args.j c.requires.1 most centre long 1 _ c.if-v-lt2.false refl c.off-arg-2-1.given c.off.result c.off.ensures.value one in
-    let three = offs_more c.requires.0 c.args.j c.requires.1 most centre long 2 _ c.if-v-lt3.false refl c.off-arg-3-1.given c.off-2.result c.off-2.ensures.value two in let z = offs_all c.requires.0 c.args.j c.requires.1 most centre long three (omega (arith, c.if-v-lt4.true)) (reach c.args.place.side) (ap (λ (x : Float). add binary64 x (float 1)) c.half_side-reach.ensures) in record { value = z.0; counts = z.1 }
+    let three = offs_more c.requires.0 c.args.j c.requires.1 most centre long 2 _ c.if-v-lt3.false refl c.off-arg-3-1.given c.off-2.result c.off-2.ensures.value two in
+    let z = offs_all c.requires.0 c.args.j c.requires.1 most centre long three (omega (arith, c.if-v-lt4.true)) (reach c.args.place.side) (ap (λ (x : Float). add binary64 x (float 1)) c.half_side-reach.ensures) in
+    record { value = z.0; counts = z.1 }
 
 pub overflow_add-start-3 : goal.overflow_add-start-3
 overflow_add-start-3 c = (place c.requires.0 c.args.j 3 _ c.requires.1 c.if-v-lt4.false refl).fits
@@ -72,10 +81,13 @@ bounds-points-start-4 c = (place c.requires.0 c.args.j 3 _ c.requires.1 c.if-v-l
 
 pub returns : goal.returns
 unfolding of_bits of_int reach
-returns c =         let centre = c.args.place.centre in
+returns c =
+    let centre = c.args.place.centre in
     let long = c.well_formed.1.1.1.0.1.1.0.1.0.1 in
     let most = add binary64 c.half_side-reach.result (float 1) in
     let one = offs_first c.requires.0 c.args.j c.requires.1 most centre long _ refl c.off-arg-1.given c.off-one.result c.off-one.ensures.value in
     let two = offs_more c.requires.0 c.args.j c.requires.1 most centre long 1 _ c.if-v-lt2.false refl c.off-arg-2-1.given c.off.result c.off.ensures.value one in
     let three = offs_more c.requires.0 c.args.j c.requires.1 most centre long 2 _ c.if-v-lt3.false refl c.off-arg-3-1.given c.off-2.result c.off-2.ensures.value two in
-    let four = offs_more c.requires.0 c.args.j c.requires.1 most centre long 3 _ c.if-v-lt4.false refl c.off-arg-4-1.given c.off-3.result c.off-3.ensures.value three in let z = offs_all c.requires.0 c.args.j c.requires.1 most centre long four (some_channels c.requires.0).1 (reach c.args.place.side) (ap (λ (x : Float). add binary64 x (float 1)) c.half_side-reach.ensures) in record { value = z.0; counts = z.1 }
+    let four = offs_more c.requires.0 c.args.j c.requires.1 most centre long 3 _ c.if-v-lt4.false refl c.off-arg-4-1.given c.off-3.result c.off-3.ensures.value three in
+    let z = offs_all c.requires.0 c.args.j c.requires.1 most centre long four (some_channels c.requires.0).1 (reach c.args.place.side) (ap (λ (x : Float). add binary64 x (float 1)) c.half_side-reach.ensures) in
+    record { value = z.0; counts = z.1 }

@@ -14,4 +14,6 @@ pub loop-i-preserved : goal.loop-i-preserved
 loop-i-preserved c = (omega arith, below_more _ _ c.loop-i.invariant.1 c.count-1.given)
 
 pub returns : goal.returns
-returns c = let e : c.loop-i.i ≡ length c.args.points.now = omega arith in (e, λ k h. c.loop-i.invariant.1 k (omega arith))
+returns c =
+    let e : c.loop-i.i ≡ length c.args.points.now = omega arith in
+    (e, λ k h. c.loop-i.invariant.1 k (omega arith))

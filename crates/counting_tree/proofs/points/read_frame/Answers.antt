@@ -14,7 +14,8 @@ pub loop-k-init : goal.loop-k-init
 loop-k-init c = (omega arith, (some_channels c.requires.0).1, inside c.requires.0 c.args.i c.requires.1, λ j h. absurd (omega arith))
 
 pub loop-k-preserved : goal.loop-k-preserved
-loop-k-preserved c =     let I = c.loop-k.invariant in
+loop-k-preserved c =
+    let I = c.loop-k.invariant in
     (omega arith, I.1, I.2, below_more _ _ I.3 c.count-1.given)
 
 pub returns : goal.returns

@@ -27,7 +27,9 @@ overflow_add-far c = record { fits = omega (arith, far_fits c.args.v.t c.require
 
 pub int_to_float-far : goal.int_to_float-far
 unfolding in_float
-int_to_float-far c = let t = c.args.v.t in le→leb (9 * (t * t) + 1) (2 ^ 53) (far_fits t c.requires.0.settings.scale.high)
+int_to_float-far c =
+    let t = c.args.v.t in
+    le→leb (9 * (t * t) + 1) (2 ^ 53) (far_fits t c.requires.0.settings.scale.high)
 
 pub returns-then-sum-far : goal.returns-then-sum-far
 unfolding of_bits of_int
@@ -47,7 +49,8 @@ overflow_mul-two-2 c = record { fits = omega (arith, four_fits (1 * 2 ^ c.args.v
 
 pub int_to_float-two : goal.int_to_float-two
 unfolding in_float
-int_to_float-two c =         let two = 1 * 2 ^ c.args.v.s % 2 ^ 64 in
+int_to_float-two c =
+    let two = 1 * 2 ^ c.args.v.s % 2 ^ 64 in
     le→leb (4 * (two * two)) (2 ^ 53) (le_trans (four_fits two (two_le c.requires.0)) (lit≤ tt))
 
 pub overflow_mul-reach-2 : goal.overflow_mul-reach-2
@@ -55,7 +58,8 @@ overflow_mul-reach-2 c = record { fits = omega (arith, reach_fits c.args.v.t (1 
 
 pub int_to_float-reach : goal.int_to_float-reach
 unfolding in_float
-int_to_float-reach c =         let t = c.args.v.t in
+int_to_float-reach c =
+    let t = c.args.v.t in
     let two = 1 * 2 ^ c.args.v.s % 2 ^ 64 in
     le→leb (t * (two + 2) * (t * (two + 2))) (2 ^ 53) (reach_fits t two c.requires.0.settings.scale.high (two_le c.requires.0))
 

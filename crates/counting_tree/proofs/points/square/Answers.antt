@@ -17,7 +17,11 @@ pub overflow_mul-result : goal.overflow_mul-result
 overflow_mul-result c = (squared_of c.args.a c.args.b c.ranges.a c.ranges.b).product
 
 pub overflow_cast-result : goal.overflow_cast-result
-overflow_cast-result c = let q = squared_of c.args.a c.args.b c.ranges.a c.ranges.b in (q.natural, record { fits = omega (arith, q.small) })
+overflow_cast-result c =
+    let q = squared_of c.args.a c.args.b c.ranges.a c.ranges.b in
+    (q.natural, record { fits = omega (arith, q.small) })
 
 pub returns : goal.returns
-returns c = let q = squared_of c.args.a c.args.b c.ranges.a c.ranges.b in record { value = q.value; bound = q.small }
+returns c =
+    let q = squared_of c.args.a c.args.b c.ranges.a c.ranges.b in
+    record { value = q.value; bound = q.small }

@@ -8,7 +8,8 @@ use mathlib.Core.Bool.{not}
 use Rattle.desk.proofs.input.are_lines.Goals as goal
 
 pub loop-init : goal.loop-init
-loop-init c =     let e : c.args.n - 0 ≡ c.args.n = omega arith in
+loop-init c =
+    let e : c.args.n - 0 ≡ c.args.n = omega arith in
     (omega arith, (omega arith, ap (λ (m : ℕ). are_lines c.args.input.now c.args.k m c.args.from) e))
 
 pub returns-then-not-is_line : goal.returns-then-not-is_line
@@ -21,5 +22,6 @@ loop-preserved c = (
 )
 
 pub returns : goal.returns
-returns c =     let z : 0 ≡ c.args.n - c.loop.counter = omega arith in
+returns c =
+    let z : 0 ≡ c.args.n - c.loop.counter = omega arith in
     ap (λ (m : ℕ). are_lines c.args.input.now c.args.k m c.loop.at) z ∙ c.loop.invariant.1.1

@@ -12,17 +12,23 @@ overflow_sub-result c = (within 48 c.args.b 57 (sym c.is_decimal.ensures ∙ c.i
 
 pub returns-then-is_decimal : goal.returns-then-is_decimal
 unfolding digit_of
-returns-then-is_decimal c =     let e : is_decimal c.args.b ≡ true = sym c.is_decimal.ensures ∙ c.if-is_decimal.true in record { value = rw e; bound = omega (arith, within 48 c.args.b 57 e) }
+returns-then-is_decimal c =
+    let e : is_decimal c.args.b ≡ true = sym c.is_decimal.ensures ∙ c.if-is_decimal.true in
+    record { value = rw e; bound = omega (arith, within 48 c.args.b 57 e) }
 
 pub overflow_sub-result-then-is_letter : goal.overflow_sub-result-then-is_letter
 overflow_sub-result-then-is_letter c = omega (arith, within 97 c.args.b 102 (sym c.is_letter.ensures ∙ c.if-is_letter.true))
 
 pub returns-then-is_letter : goal.returns-then-is_letter
 unfolding digit_of
-returns-then-is_letter c =     let n : is_decimal c.args.b ≡ false = sym c.is_decimal.ensures ∙ c.if-is_decimal.false in
-    let e : is_letter c.args.b ≡ true = sym c.is_letter.ensures ∙ c.if-is_letter.true in record { value = rw (n, e); bound = omega (arith, within 97 c.args.b 102 e) }
+returns-then-is_letter c =
+    let n : is_decimal c.args.b ≡ false = sym c.is_decimal.ensures ∙ c.if-is_decimal.false in
+    let e : is_letter c.args.b ≡ true = sym c.is_letter.ensures ∙ c.if-is_letter.true in
+    record { value = rw (n, e); bound = omega (arith, within 97 c.args.b 102 e) }
 
 pub returns : goal.returns
 unfolding digit_of
-returns c =     let n : is_decimal c.args.b ≡ false = sym c.is_decimal.ensures ∙ c.if-is_decimal.false in
-    let e : is_letter c.args.b ≡ false = sym c.is_letter.ensures ∙ c.if-is_letter.false in record { value = rw (n, e); bound = omega arith }
+returns c =
+    let n : is_decimal c.args.b ≡ false = sym c.is_decimal.ensures ∙ c.if-is_decimal.false in
+    let e : is_letter c.args.b ≡ false = sym c.is_letter.ensures ∙ c.if-is_letter.false in
+    record { value = rw (n, e); bound = omega arith }

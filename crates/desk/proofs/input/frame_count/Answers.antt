@@ -9,7 +9,8 @@ use borrow.Author.Rules.{rules}
 use Rattle.desk.proofs.input.frame_count.Goals as goal
 
 pub returns-then-input-le-LINE_ONE : goal.returns-then-input-le-LINE_ONE
-returns-then-input-le-LINE_ONE c =     let e : 0 ≡ length c.args.input.now - 13 = omega arith in
+returns-then-input-le-LINE_ONE c =
+    let e : 0 ≡ length c.args.input.now - 13 = omega arith in
     sym (zero-div (4 * channels_of c.args.input.now + 1)) ∙ ap (λ (n : ℕ). n / (4 * channels_of c.args.input.now + 1)) e
 
 pub returns : goal.returns

@@ -10,7 +10,8 @@ use mathlib.Core.Bool.{not}
 use Rattle.desk.proofs.input.is_line.Goals as goal
 
 pub loop-i-init : goal.loop-i-init
-loop-i-init c =     let e : c.args.at + c.args.k - c.args.at ≡ c.args.k = omega arith in
+loop-i-init c =
+    let e : c.args.at + c.args.k - c.args.at ≡ c.args.k = omega arith in
     (omega arith, (omega arith, ap (is_line c.args.input.now c.args.at) e))
 
 pub byte-requires : goal.byte-requires
@@ -36,7 +37,8 @@ pub byte-requires-2 : goal.byte-requires-2
 byte-requires-2 c = tt
 
 pub returns : goal.returns
-returns c =     let e : c.loop-i.i ≡ c.args.at + c.args.k = omega arith in
+returns c =
+    let e : c.loop-i.i ≡ c.args.at + c.args.k = omega arith in
     let z : c.args.at + c.args.k - c.loop-i.i ≡ 0 = omega arith in
     ap (λ (b : ℕ). eqb b 10) (c.byte-2.ensures ∙ ap (λ (j : ℕ). get_or c.args.input.now j 0) (sym e))
     ∙ ap (is_line c.args.input.now c.loop-i.i) (sym z)

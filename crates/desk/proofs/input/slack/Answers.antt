@@ -16,5 +16,6 @@ loop-preserved c = (omega arith, ap (λ (x : Float). mul binary64 x (float 2)) c
 
 pub returns : goal.returns
 unfolding slack_at of_bits
-returns c =     let e : c.loop.counter ≡ c.args.s = omega arith in
+returns c =
+    let e : c.loop.counter ≡ c.args.s = omega arith in
     ap (λ (x : Float). div binary64 (float 1) x) (c.loop.invariant.1 ∙ ap (λ (k : ℕ). float (2 ^ k)) e)
