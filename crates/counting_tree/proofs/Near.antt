@@ -14,7 +14,6 @@ use lib.Seq.{drop-cons, get_or-take, length-take-le}
 use lib.Ieee.{Float, nan, binary64, sub, neg, lt, of_int}
 use mir.Syntax.{w16}
 use mir.Val.{to_z, of_z}
-use Rattle.lists.specs.ListLaws.{not_turn}
 use Rattle.hyperparams.specs.declared.ValidParams.{ValidParams}
 use Rattle.counting_tree.specs.Frames.{Frame, frames_in}
 use Rattle.counting_tree.specs.FramesIn.{frame_at, frame_length}

@@ -1,5 +1,5 @@
 -- The float distance against the exact one, both by squares: its error is a fixed small amount, not a part of the distance.
-use Rattle.std.specs.Prelude.{◌≡◌, ◌⊎◌, Bool, true, false, List, [], ◌∷◌, ℕ, suc, ◌+◌, ◌-◌, ◌*◌, ◌^◌, ◌≤◌, ◌<◌, pos, T, length, Float}
+use Rattle.std.specs.Prelude.{◌≡◌, ◌⊎◌, Bool, true, false, List, [], ◌∷◌, ℕ, suc, ◌+◌, ◌-◌, ◌*◌, ◌^◌, ◌≤◌, ◌<◌, pos, length, Float}
 use Rattle.std.proofs.Common.{sym, ap, ◌∙◌, subst, inl, inr, zero-le, le_trans, le_of_eq, mul-le-mul_right, mul-pos, mul_assoc, add-mul, suc-mul, add-le-add, add-zero, zero-add, add-suc, suc-add, add_assoc, le-add_right, mul-one, le_of_lt, le_of_mul-le-mul_right, zero-mul, lit<, lit≤}
 use Rattle.std.proofs.Math.Nat.{le_of_mul-le-mul_left}
 use native.Mathlib.Omega.{arith, by_contra}

@@ -5,7 +5,6 @@ use native.Mathlib.Nat.{mod-lt, mod-eq_of_lt}
 use native.Mathlib.Omega.{arith}
 use Rattle.lists.proofs.BucketLaws.{bucket_below}
 use Rattle.blocks.specs.Blocks.{bucket_at}
-use borrow.Author.Rules.{rules}
 use Rattle.blocks.proofs.bucket.Goals as goal
 
 pub overflow_add-b : goal.overflow_add-b

@@ -3,7 +3,6 @@ use Prim.Native.Nat.{◌-◌}
 use native.Mathlib.Nat.{mod-le}
 use native.Mathlib.Omega.{arith}
 use Rattle.blocks.proofs.Edges.{raised_is, edge_zero, edge_down}
-use borrow.Author.Rules.{rules}
 use Rattle.blocks.proofs.edge.Goals as goal
 
 pub returns-then-x-down : goal.returns-then-x-down

@@ -2,7 +2,6 @@
 use native.Mathlib.Omega.{arith}
 use Rattle.lists.specs.OrderLaws.{below_at}
 use Rattle.blocks.proofs.Hashes.{hash_is}
-use borrow.Author.Rules.{rules}
 use Rattle.blocks.proofs.hash_of.Goals as goal
 
 pub overflow_add-low : goal.overflow_add-low

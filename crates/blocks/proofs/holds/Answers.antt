@@ -4,7 +4,6 @@ use Prim.Native.Nat.{◌+◌, ◌*◌, ◌≤◌}
 use native.Mathlib.Nat.{mul-le-mul, add-mul-mod_self_left}
 use native.Mathlib.Omega.{arith}
 use Rattle.blocks.proofs.Edges.{raised_is, holds_above, holds_below}
-use borrow.Author.Rules.{rules}
 use Rattle.blocks.proofs.holds.Goals as goal
 
 pub overflow_mul-from : goal.overflow_mul-from

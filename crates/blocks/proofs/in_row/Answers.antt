@@ -5,7 +5,6 @@ use native.Mathlib.Nat.{mod-lt}
 use native.Mathlib.Omega.{arith}
 use Rattle.lists.specs.OrderLaws.{below_at}
 use Rattle.blocks.proofs.Edges.{bit_0, first_place, place, same_next, same_stop, same_last, all_same}
-use borrow.Author.Rules.{rules}
 use Rattle.blocks.proofs.in_row.Goals as goal
 
 pub returns-then-v-eq1 : goal.returns-then-v-eq1

@@ -5,7 +5,6 @@ use mathlib.Core.Path.{ap}
 use lib.ListN.{get_or, length}
 use Rattle.lists.specs.OrderLaws.{below_at}
 use Rattle.blocks.proofs.Edges.{row_long, key_bucket}
-use borrow.Author.Rules.{rules}
 use Rattle.blocks.proofs.key.Goals as goal
 
 pub bucket-requires : goal.bucket-requires

@@ -3,7 +3,6 @@ use mathlib.Core.Path.{refl, sym}
 use native.Mathlib.Omega.{arith}
 use Rattle.lists.specs.OrderLaws.{below_at}
 use Rattle.blocks.proofs.Edges.{first_place, place, own_next, own_end, own_is}
-use borrow.Author.Rules.{rules}
 use Rattle.blocks.proofs.own_row.Goals as goal
 
 pub returns-then-v-eq1 : goal.returns-then-v-eq1

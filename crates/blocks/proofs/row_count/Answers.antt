@@ -5,7 +5,6 @@ use native.Mathlib.Nat.{one-mul}
 use native.Mathlib.Omega.{arith}
 use lib.Dec.{lit<}
 use lib.Pow.{shl_exact}
-use borrow.Author.Rules.{rules}
 use Rattle.blocks.proofs.row_count.Goals as goal
 
 pub returns : goal.returns

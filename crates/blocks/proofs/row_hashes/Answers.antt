@@ -2,7 +2,6 @@
 use native.Mathlib.Omega.{arith}
 use Rattle.lists.specs.OrderLaws.{below_at}
 use Rattle.blocks.proofs.Hashes.{rows_of, rows_below}
-use borrow.Author.Rules.{rules}
 use Rattle.blocks.proofs.row_hashes.Goals as goal
 
 pub overflow_add-first : goal.overflow_add-first

@@ -1,7 +1,6 @@
 -- The count is raised, and compared with where the second block begins.
 use native.Mathlib.Omega.{arith}
 use Rattle.blocks.proofs.Edges.{raised_is, second_yes, second_no}
-use borrow.Author.Rules.{rules}
 use Rattle.blocks.proofs.second.Goals as goal
 
 pub returns-then-low-width : goal.returns-then-low-width

@@ -4,7 +4,6 @@ use mathlib.Core.Path.{refl}
 use native.Mathlib.Nat.{mul-le-mul, mod-lt}
 use native.Mathlib.Omega.{arith}
 use Rattle.blocks.specs.Blocks.{spread}
-use borrow.Author.Rules.{rules}
 use Rattle.blocks.proofs.spread.Goals as goal
 
 pub overflow_mul-result : goal.overflow_mul-result

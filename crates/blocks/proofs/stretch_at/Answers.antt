@@ -1,6 +1,5 @@
 -- Where the next bucket is the first, its numbers stand at the front.
 use Rattle.blocks.specs.SortedLaws.{stretch_on, stretch_round}
-use borrow.Author.Rules.{rules}
 use Rattle.blocks.proofs.stretch_at.Goals as goal
 
 pub returns-then-next-size : goal.returns-then-next-size

@@ -1,5 +1,5 @@
 -- Each answer is the table's row that its tests name.
-use Rattle.std.proofs.Common.{◌≡◌, ℕ, ◌<◌, ◌≤◌, ◌/◌, ◌%◌, inl, inr, rules}
+use Rattle.std.proofs.Common.{◌≡◌, ℕ, ◌≤◌, ◌/◌, ◌%◌, inl, inr, rules}
 use lib.Ieee.{of_bits, of_int}
 use Rattle.hyperparams.specs.declared.Params.{Params}
 use Rattle.hyperparams.specs.Params.{slack_power, max_power, max_frames}

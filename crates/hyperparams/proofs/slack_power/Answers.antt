@@ -1,4 +1,4 @@
-use Rattle.std.proofs.Common.{◌≡◌, ℕ, suc, ◌+◌, ◌-◌, ◌*◌, ◌^◌, ◌<◌, ◌≤◌, Bool, true, false, cond, sym, refl, ap, ◌∙◌, subst, le_trans, le_of_eq, pow-suc, add-one, arith, le→leb, pow_mono}
+use Rattle.std.proofs.Common.{◌≡◌, ℕ, suc, ◌+◌, ◌-◌, ◌*◌, ◌^◌, ◌<◌, Bool, true, false, cond, sym, refl, ap, ◌∙◌, subst, le_trans, le_of_eq, pow-suc, add-one, arith, le→leb, pow_mono}
 use lib.Ieee.{Float, binary64, eq, div, of_int, of_bits, in_float}
 use Rattle.hyperparams.specs.Params.{float, slack_at, slack_from, slack_power}
 use Rattle.hyperparams.proofs.slack_power.Goals as goal

@@ -1,5 +1,5 @@
 -- The product fits: at most 4,096 frames, at most 64 words each.
-use Rattle.std.proofs.Common.{ℕ, ◌≤◌, refl, mul-le-mul, arith, rules}
+use Rattle.std.proofs.Common.{ℕ, ◌≤◌, refl, mul-le-mul, arith}
 use Rattle.hyperparams.specs.Params.{work_words, max_frames, max_power}
 use Rattle.hyperparams.proofs.work_words.Goals as goal
 

@@ -1,9 +1,6 @@
 -- One step at three bases: 8 digits give 16, those 32, those 54.
-use Rattle.std.proofs.Common.{◌/◌, ◌^◌, arith, rules}
+use Rattle.std.proofs.Common.{◌/◌, ◌^◌, arith}
 use Rattle.ieee754.proofs.Step.{room, joined}
-use Rattle.ieee754.proofs.all_digits.Reads as reads
-use Rattle.ieee754.proofs.first_digits.Reads as first-digits-reads
-use Rattle.ieee754.proofs.more_digits.Reads as more-digits-reads
 use Rattle.ieee754.proofs.all_digits.Goals as goal
 
 pub more_digits-s16-requires : goal.more_digits-s16-requires

@@ -1,7 +1,5 @@
 -- The cut, or one more where it lies below.
 use Rattle.ieee754.proofs.Ceil.{low_63, high_63, cut_float, more_fits, is_more, is_same}
-use Rattle.ieee754.proofs.ceiling.Reads as reads
-use Rattle.std.proofs.num.truncating_f64_to_i64.Reads as truncating-f64-to-i64-reads
 use Rattle.ieee754.proofs.ceiling.Goals as goal
 
 pub truncating_f64_to_i64-cut-requires : goal.truncating_f64_to_i64-cut-requires

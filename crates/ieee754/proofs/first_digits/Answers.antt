@@ -1,5 +1,4 @@
-use Rattle.std.proofs.Common.{◌+◌, ◌-◌, ◌*◌, ◌<◌, ◌≤◌, lt_of_lt_of_le, lt_of_le_of_lt, mul-le-mul, arith, lit<}
-use Rattle.ieee754.proofs.first_digits.Reads as reads
+use Rattle.std.proofs.Common.{◌+◌, lt_of_lt_of_le, lt_of_le_of_lt, mul-le-mul, arith, lit<}
 use Rattle.ieee754.proofs.first_digits.Goals as goal
 
 pub overflow_mul-middle : goal.overflow_mul-middle

@@ -1,6 +1,5 @@
 -- The root stays from low up to below high, and they meet.
-use Rattle.std.proofs.Common.{◌+◌, ◌-◌, ◌*◌, ◌<◌, ◌≤◌, lt_of_lt_of_le, lt_of_le_of_lt, mul-le-mul, arith, lit<}
-use Rattle.ieee754.proofs.first_digits.Reads as reads
+use Rattle.std.proofs.Common.{◌-◌, ◌*◌, ◌<◌, ◌≤◌}
 use Rattle.ieee754.proofs.first_digits.Given as goal
 
 abbrev pub invariant-loop-low : goal.invariant-loop-low

@@ -1,7 +1,6 @@
 -- The step's laws at the numbers of the code: nothing overflows, and the corrected quotient gives the root.
-use Rattle.std.proofs.Common.{arith, rules}
+use Rattle.std.proofs.Common.{arith}
 use Rattle.ieee754.proofs.Step.{rest_fits, root_fits, digit_le, left_fits, square_fits, less, keep}
-use Rattle.ieee754.proofs.more_digits.Reads as reads
 use Rattle.ieee754.proofs.more_digits.Goals as goal
 
 pub overflow_mul-t-2 : goal.overflow_mul-t-2

@@ -1,10 +1,8 @@
 -- A significand with no leading digit, and one with it.
-use Rattle.std.proofs.Common.{◌+◌, ◌-◌, ◌/◌, ◌%◌, ◌^◌, sym, ap, ◌∙◌, arith, rules}
+use Rattle.std.proofs.Common.{◌+◌, ◌-◌, ◌/◌, ◌%◌, ◌^◌, sym, ap, ◌∙◌, arith}
 use lib.Ieee.{binary64, of_bits}
 use Rattle.ieee754.specs.Root.{root}
 use Rattle.ieee754.proofs.Fields.{low_field, high_field, own_bits, no_nan_bits}
-use Rattle.ieee754.proofs.positive_root.Reads as reads
-use Rattle.ieee754.proofs.root_bits.Reads as root-bits-reads
 use Rattle.ieee754.proofs.positive_root.Goals as goal
 
 pub float_from_bits-result : goal.float_from_bits-result

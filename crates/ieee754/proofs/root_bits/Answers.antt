@@ -1,8 +1,6 @@
 -- The significand moved up, the digits of its root, and where they stand in the bits.
-use Rattle.std.proofs.Common.{arith, rules}
+use Rattle.std.proofs.Common.{arith}
 use Rattle.ieee754.proofs.Moved.{zeros_from, zeros_to, moved_from, kept_whole, digits_below, bits_of_root}
-use Rattle.ieee754.proofs.root_bits.Reads as reads
-use Rattle.ieee754.proofs.all_digits.Reads as all-digits-reads
 use Rattle.ieee754.proofs.root_bits.Goals as goal
 
 pub overflow_cast-zeros : goal.overflow_cast-zeros

@@ -1,7 +1,5 @@
 -- An entry of the table is the root, and the nearest.
 use Rattle.ieee754.proofs.Roots.{table}
-use Rattle.std.proofs.Common.{rules}
-use Rattle.ieee754.proofs.root_of_small.Reads as reads
 use Rattle.ieee754.proofs.root_of_small.Goals as goal
 
 pub returns : goal.returns

@@ -1,8 +1,6 @@
 use mathlib.Core.Path.{refl}
-use Prim.Native.Nat.{◌+◌, ◌-◌}
 use native.Mathlib.Omega.{arith}
-use lib.ListN.{get_or}
-use Rattle.lists.proofs.LoopLaws.{Fill, fill_start, fill_length, fill_step, fill_part}
+use Rattle.lists.proofs.LoopLaws.{fill_start, fill_length, fill_step, fill_part}
 use Rattle.lists.proofs.Copying.{copy_read}
 use Rattle.lists.proofs.copy_words.Goals as goal
 

@@ -1,10 +1,7 @@
 -- `copy_words` meets its contract.
-use mathlib.Core.Path.{refl}
 use Prim.Native.Nat.{◌+◌, ◌-◌}
-use native.Mathlib.Omega.{arith}
 use lib.ListN.{get_or}
-use Rattle.lists.proofs.LoopLaws.{Fill, fill_start, fill_length, fill_step, fill_part}
-use Rattle.lists.proofs.Copying.{copy_read}
+use Rattle.lists.proofs.LoopLaws.{Fill}
 use Rattle.lists.proofs.copy_words.Given as goal
 
 abbrev pub invariant-loop-i : goal.invariant-loop-i

@@ -1,7 +1,6 @@
-use Prim.Native.Nat.{◌-◌}
 use native.Mathlib.Omega.{arith}
 use mathlib.Core.Path.{refl}
-use Rattle.lists.proofs.LoopLaws.{Fill, fill_start, fill_length, fill_step}
+use Rattle.lists.proofs.LoopLaws.{fill_start, fill_length, fill_step}
 use Rattle.lists.proofs.Copying.{filled_end}
 use Rattle.lists.proofs.fill_words.Goals as goal
 

@@ -1,11 +1,9 @@
-use Prim.Native.Nat.{◌-◌}
 use mathlib.Core.Path.{refl, sym, ◌∙◌}
 use native.Mathlib.Nat.{zero-add}
 use native.Mathlib.Omega.{arith}
-use lib.ListN.{length}
 use Rattle.lists.specs.ListLaws.{length_numbers}
 use Rattle.lists.proofs.WordLaws.{over_all}
-use Rattle.lists.proofs.LoopLaws.{Fill, fill_start, fill_step, fill_length, fill_end}
+use Rattle.lists.proofs.LoopLaws.{fill_start, fill_step, fill_length, fill_end}
 use Rattle.partitions.proofs.reset.Goals as goal
 
 pub loop-c-init : goal.loop-c-init

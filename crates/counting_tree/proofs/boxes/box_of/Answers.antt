@@ -3,7 +3,6 @@ use mathlib.Core.Path.{ap}
 use mathlib.Core.List.{List}
 use lib.Ieee.{Float}
 use Rattle.counting_tree.specs.Arrays.{box_of}
-use borrow.Author.Rules.{rules}
 use Rattle.counting_tree.proofs.boxes.box_of.Goals as goal
 
 pub returns : goal.returns

@@ -1,7 +1,6 @@
 -- Channel by channel; the others stay 0.
 use native.Mathlib.Omega.{arith}
 use Rattle.counting_tree.proofs.Arrays.{four_centres, centre_here, centre_past}
-use borrow.Author.Rules.{rules}
 use Rattle.counting_tree.proofs.boxes.centre_of.Goals as goal
 
 pub returns-then-channels-lt1 : goal.returns-then-channels-lt1

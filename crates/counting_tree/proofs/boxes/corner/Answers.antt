@@ -1,15 +1,13 @@
-use mathlib.Core.Path.{◌≡◌, refl, sym, ap, subst, ◌∙◌}
+use mathlib.Core.Path.{refl, sym, ap, subst, ◌∙◌}
 use mathlib.Core.Bool.{true, false}
 use mathlib.Core.List.{List}
-use mathlib.Core.Logic.{⊎_elim}
-use Prim.Native.Nat.{◌+◌, ◌-◌, ◌≤◌}
+use Prim.Native.Nat.{◌+◌}
 use native.Mathlib.Omega.{arith}
 use borrow.Author.Tests.{eq-eqb, ne_eqb}
-use lib.ListN.{length, drop}
 use lib.Ieee.{Float}
 use Rattle.lists.proofs.LoopLaws.{Fill, fill_start, fill_step, fill_end}
 use Rattle.lists.specs.Words.{over}
-use Rattle.counting_tree.specs.Arrays.{corner_of, row_of}
+use Rattle.counting_tree.specs.Arrays.{row_of}
 use Rattle.counting_tree.proofs.Arrays.{corner_at, corner_column, corner_here, corner_after}
 use Rattle.counting_tree.proofs.boxes.corner.Goals as goal
 use Rattle.counting_tree.proofs.boxes.corner.Goals.{then-bits-eq0, else-bits-eq0}
@@ -19,8 +17,7 @@ loop-i-init c = (omega arith, c.well_formed.0.1.0.1, refl, fill_start (omega ari
 
 pub loop-i-preserved : goal.loop-i-preserved
 loop-i-preserved c =
-    let more = fill_step c.loop-i.invariant.3 (omega arith) in
-    (
+    let more = fill_step c.loop-i.invariant.3 (omega arith) in (
       c.loop-i.invariant.0,
       c.loop-i.invariant.1,
       c.loop-i.invariant.2,
@@ -33,4 +30,4 @@ loop-i-preserved c =
 
 pub returns : goal.returns
 unfolding row_of
-returns c =             fill_end c.loop-i.invariant.3 (omega arith) ∙ ap (over c.args.centre 0) (corner_column c.args.centre c.args.e c.args.k c.args.channels (omega arith))
+returns c = fill_end c.loop-i.invariant.3 (omega arith) ∙ ap (over c.args.centre 0) (corner_column c.args.centre c.args.e c.args.k c.args.channels (omega arith))

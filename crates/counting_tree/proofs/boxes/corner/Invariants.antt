@@ -1,17 +1,10 @@
 -- The row is filled channel by channel, as the bits of the corner's number say.
-use mathlib.Core.Path.{◌≡◌, refl, sym, ap, subst, ◌∙◌}
-use mathlib.Core.Bool.{true, false}
-use mathlib.Core.List.{List}
-use mathlib.Core.Logic.{⊎_elim}
-use Prim.Native.Nat.{◌+◌, ◌-◌, ◌≤◌}
-use native.Mathlib.Omega.{arith}
-use borrow.Author.Tests.{eq-eqb, ne_eqb}
+use mathlib.Core.Path.{◌≡◌}
+use Prim.Native.Nat.{◌-◌, ◌≤◌}
 use lib.ListN.{length, drop}
-use lib.Ieee.{Float}
-use Rattle.lists.proofs.LoopLaws.{Fill, fill_start, fill_step, fill_end}
-use Rattle.lists.specs.Words.{over}
-use Rattle.counting_tree.specs.Arrays.{corner_of, row_of}
-use Rattle.counting_tree.proofs.Arrays.{corner_at, corner_column, corner_here, corner_after}
+use Rattle.lists.proofs.LoopLaws.{Fill}
+use Rattle.counting_tree.specs.Arrays.{corner_of}
+use Rattle.counting_tree.proofs.Arrays.{corner_at}
 use Rattle.counting_tree.proofs.boxes.corner.Given as goal
 
 abbrev pub invariant-loop-i : goal.invariant-loop-i

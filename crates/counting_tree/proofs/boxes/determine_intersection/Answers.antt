@@ -1,14 +1,13 @@
 -- The answer by the outcomes of the four tests.
-use mathlib.Core.Path.{refl, sym, ◌∙◌}
+use mathlib.Core.Path.{refl}
 use mathlib.Core.Bool.{true, false}
 use native.Mathlib.Omega.{arith}
-use lib.ListN.{take, length-map}
-use lib.Ieee.{Float, of_bits, of_int}
+use lib.ListN.{take}
+use lib.Ieee.{of_bits, of_int}
 use Rattle.counting_tree.specs.Grid.{half}
 use Rattle.counting_tree.specs.Box.{corners, farthest}
 use Rattle.counting_tree.proofs.Arrays.{farthest_is}
 use Rattle.counting_tree.proofs.Answer.{radius_is, by_tests, centre_outside}
-use borrow.Author.Rules.{rules}
 use Rattle.counting_tree.proofs.boxes.determine_intersection.Goals as goal
 
 pub returns-then-d-h : goal.returns-then-d-h

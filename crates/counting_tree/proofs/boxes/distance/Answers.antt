@@ -2,7 +2,6 @@
 use mathlib.Core.Path.{ap, ◌∙◌}
 use Rattle.ieee754.specs.Root.{root}
 use Rattle.counting_tree.specs.Box as Definitions
-use borrow.Author.Rules.{rules}
 use Rattle.counting_tree.proofs.boxes.distance.Goals as goal
 
 pub returns : goal.returns

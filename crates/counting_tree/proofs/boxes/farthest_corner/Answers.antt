@@ -1,15 +1,13 @@
-use mathlib.Core.Path.{◌≡◌, refl, ap, ◌∙◌}
+use mathlib.Core.Path.{refl, ap, ◌∙◌}
 use mathlib.Core.Bool.{true, false}
 use mathlib.Core.List.{map}
-use mathlib.Core.Logic.{⊎_elim}
-use Prim.Native.Nat.{ℕ, ◌-◌, ◌^◌, ◌≤◌}
+use Prim.Native.Nat.{ℕ, ◌≤◌}
 use native.Mathlib.Omega.{arith}
-use lib.ListN.{length, take, drop}
+use lib.ListN.{take}
 use lib.Ieee.{of_bits, of_int}
 use Rattle.ieee754.specs.Root.{root}
-use Rattle.hyperparams.specs.Params.{float}
 use Rattle.counting_tree.specs.Box.{farthest}
-use Rattle.counting_tree.specs.Farthest.{largest_from, farthest_root}
+use Rattle.counting_tree.specs.Farthest.{farthest_root}
 use Rattle.counting_tree.proofs.Arrays.{at_most_sixteen, scan_step, scan_done}
 use Rattle.counting_tree.proofs.boxes.farthest_corner.Goals as goal
 use Rattle.counting_tree.proofs.boxes.farthest_corner.Goals.{then-far-sum, else-far-sum}
@@ -23,8 +21,7 @@ loop-k-init c =
 pub loop-k-preserved : goal.loop-k-preserved
 loop-k-preserved c =
     let n = c.corner_count-n.result in
-    let step = scan_step c.args.channels n (take c.args.channels c.args.q) c.args.all (omega arith) c.loop-k.far c.square_sum-sum.result c.if-far-sum.far c.loop-k.k in
-    (
+    let step = scan_step c.args.channels n (take c.args.channels c.args.q) c.args.all (omega arith) c.loop-k.far c.square_sum-sum.result c.if-far-sum.far c.loop-k.k in (
       omega arith,
       c.loop-k.invariant.1,
       c.loop-k.invariant.2,

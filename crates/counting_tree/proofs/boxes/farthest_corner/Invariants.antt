@@ -1,17 +1,10 @@
 -- The loop keeps the larger of two sums.
-use mathlib.Core.Path.{◌≡◌, refl, ap, ◌∙◌}
-use mathlib.Core.Bool.{true, false}
+use mathlib.Core.Path.{◌≡◌}
 use mathlib.Core.List.{map}
-use mathlib.Core.Logic.{⊎_elim}
-use Prim.Native.Nat.{ℕ, ◌-◌, ◌^◌, ◌≤◌}
-use native.Mathlib.Omega.{arith}
+use Prim.Native.Nat.{◌-◌, ◌^◌, ◌≤◌}
 use lib.ListN.{length, take, drop}
-use lib.Ieee.{of_bits, of_int}
-use Rattle.ieee754.specs.Root.{root}
 use Rattle.hyperparams.specs.Params.{float}
-use Rattle.counting_tree.specs.Box.{farthest}
-use Rattle.counting_tree.specs.Farthest.{largest_from, farthest_root}
-use Rattle.counting_tree.proofs.Arrays.{at_most_sixteen, scan_step, scan_done}
+use Rattle.counting_tree.specs.Farthest.{largest_from}
 use Rattle.counting_tree.proofs.boxes.farthest_corner.Given as goal
 
 abbrev pub invariant-loop-k : goal.invariant-loop-k

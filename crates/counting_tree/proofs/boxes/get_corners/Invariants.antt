@@ -1,15 +1,11 @@
 -- The rows are filled corner by corner.
-use mathlib.Core.Path.{◌≡◌, refl, ap, ◌∙◌}
-use Prim.Native.Nat.{ℕ, ◌-◌, ◌^◌, ◌≤◌}
-use native.Mathlib.Omega.{arith}
+use mathlib.Core.Path.{◌≡◌}
+use Prim.Native.Nat.{◌-◌, ◌^◌, ◌≤◌}
 use lib.ListN.{replicate}
-use lib.Ieee.{of_bits, of_int}
-use Rattle.lists.proofs.LoopLaws.{Fill, fill_start, fill_step, fill_end}
-use Rattle.lists.specs.Words.{over, column}
+use Rattle.lists.proofs.LoopLaws.{Fill}
 use Rattle.hyperparams.specs.Params.{float}
 use Rattle.counting_tree.specs.Grid.{half}
-use Rattle.counting_tree.specs.Arrays.{row_of, rows_of}
-use Rattle.counting_tree.proofs.Arrays.{at_most_sixteen}
+use Rattle.counting_tree.specs.Arrays.{row_of}
 use Rattle.counting_tree.proofs.boxes.get_corners.Given as goal
 
 abbrev pub invariant-loop-k : goal.invariant-loop-k

@@ -5,7 +5,6 @@ use native.Mathlib.Omega.{arith}
 use lib.ListN.{length}
 use lib.Ieee.{of_bits, of_int}
 use Rattle.counting_tree.proofs.Arrays.{sum_step, sum_done}
-use borrow.Author.Rules.{rules}
 use Rattle.counting_tree.proofs.boxes.square_sum.Goals as goal
 
 pub returns-then-channels-lt1 : goal.returns-then-channels-lt1

@@ -2,7 +2,6 @@
 use mathlib.Core.Path.{ap}
 use lib.Ieee.{binary64, div}
 use Rattle.counting_tree.specs.Grid.{side_at, root_channels}
-use borrow.Author.Rules.{rules}
 use Rattle.counting_tree.proofs.grid.base_side.Goals as goal
 
 pub returns : goal.returns

@@ -5,7 +5,6 @@ use lib.Ieee.{binary64, of_int, mul}
 use mir.Facts.{to_z-of_z}
 use Rattle.counting_tree.specs.Grid.{centre, index}
 use Rattle.counting_tree.proofs.Index.{coordinate, index_back}
-use borrow.Author.Rules.{rules}
 use Rattle.counting_tree.proofs.grid.cell_center.Goals as goal
 
 pub int_to_float-result : goal.int_to_float-result

@@ -6,7 +6,6 @@ use lib.Ieee.{binary64, of_int}
 use mir.Facts.{to_z-of_z}
 use Rattle.counting_tree.specs.InBox.{index_by}
 use Rattle.counting_tree.proofs.Index.{by_tests, above_small, below_small, coordinate, ceiling_fits, less_fits}
-use borrow.Author.Rules.{rules}
 use Rattle.counting_tree.proofs.grid.cell_index.Goals as goal
 
 pub returns-then-around_zero : goal.returns-then-around_zero

@@ -1,7 +1,6 @@
-use Rattle.std.proofs.Common.{refl, arith}
-use borrow.Author.Rules.{rules}
+use Rattle.std.proofs.Common.{refl}
 use Rattle.counting_tree.proofs.Lent.{some_channels}
-use Rattle.counting_tree.proofs.Walk.{Walking, walk_start, walk_side, walk_disjoint, walk_covered, walk_last, walk_on}
+use Rattle.counting_tree.proofs.Walk.{walk_start, walk_side, walk_disjoint, walk_covered, walk_last, walk_on}
 use Rattle.counting_tree.proofs.paths.reaches.Goals as goal
 
 pub base_side-requires : goal.base_side-requires

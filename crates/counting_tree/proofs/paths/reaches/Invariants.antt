@@ -1,8 +1,5 @@
 -- What the path says from the level on is what it says from the root.
-use native.Mathlib.Omega.{arith}
-use borrow.Author.Rules.{rules}
-use Rattle.counting_tree.proofs.Lent.{some_channels}
-use Rattle.counting_tree.proofs.Walk.{Walking, walk_start, walk_side, walk_disjoint, walk_covered, walk_last, walk_on}
+use Rattle.counting_tree.proofs.Walk.{Walking}
 use Rattle.counting_tree.proofs.paths.reaches.Given as goal
 
 abbrev pub invariant-loop-left : goal.invariant-loop-left

@@ -1,7 +1,6 @@
 -- One of the two answers is the definition.
 use mathlib.Core.Path.{sym}
 use Rattle.counting_tree.specs.Clear.{clearly_crossing}
-use borrow.Author.Rules.{rules}
 use Rattle.counting_tree.proofs.points.clearly_crossing.Goals as goal
 
 pub returns-then-clearly_between : goal.returns-then-clearly_between

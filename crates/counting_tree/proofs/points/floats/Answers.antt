@@ -1,6 +1,5 @@
 -- Each count is exact as a float.
 use Rattle.counting_tree.proofs.Counts.{four_floats}
-use borrow.Author.Rules.{rules}
 use Rattle.counting_tree.proofs.points.floats.Goals as goal
 
 pub returns : goal.returns

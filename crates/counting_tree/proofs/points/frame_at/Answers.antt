@@ -6,7 +6,6 @@ use native.Mathlib.Omega.{arith}
 use Rattle.lists.proofs.PartLaws.{part_length}
 use Rattle.counting_tree.proofs.Arrays.{four_placed}
 use Rattle.counting_tree.proofs.Counts.{count_read, count_past}
-use borrow.Author.Rules.{rules}
 use Rattle.counting_tree.proofs.points.frame_at.Goals as goal
 
 pub returns-then-channels-lt1 : goal.returns-then-channels-lt1

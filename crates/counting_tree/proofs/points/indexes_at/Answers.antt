@@ -5,7 +5,6 @@ use native.Mathlib.Omega.{arith}
 use Rattle.counting_tree.proofs.Arrays.{four_placed}
 use Rattle.counting_tree.proofs.Lent.{some_channels, place, first_place}
 use Rattle.counting_tree.proofs.Same.{ys_few, ys_past, index_here}
-use borrow.Author.Rules.{rules}
 use Rattle.counting_tree.proofs.points.indexes_at.Goals as goal
 
 pub overflow_mul-start : goal.overflow_mul-start

@@ -1,13 +1,11 @@
 -- Channel by channel.
-use mathlib.Core.Path.{refl, sym, ap, ◌∙◌}
+use mathlib.Core.Path.{refl, ap}
 use native.Mathlib.Omega.{arith}
-use lib.ListN.{length-map}
 use lib.Ieee.{Float, binary64, of_bits, of_int, add}
 use Rattle.hyperparams.specs.Params.{float}
 use Rattle.counting_tree.specs.NearBox.{reach}
 use Rattle.counting_tree.proofs.Lent.{some_channels, place, first_place}
 use Rattle.counting_tree.proofs.Near.{offs_first, offs_more, offs_all}
-use borrow.Author.Rules.{rules}
 use Rattle.counting_tree.proofs.points.near_box.Goals as goal
 
 pub overflow_mul-start : goal.overflow_mul-start

@@ -5,7 +5,6 @@ use native.Mathlib.Omega.{arith}
 use lib.Ieee.{binary64, of_int}
 use mir.Facts.{to_z-of_z}
 use Rattle.counting_tree.proofs.Near.{off_is}
-use borrow.Author.Rules.{rules}
 use Rattle.counting_tree.proofs.points.off.Goals as goal
 
 pub returns-then-d-reach : goal.returns-then-d-reach

@@ -1,10 +1,7 @@
 use mathlib.Core.Path.{◌≡◌}
-use Prim.Native.Nat.{ℕ, ◌-◌, ◌≤◌, ◌<◌}
 use native.Mathlib.Omega.{arith}
 use borrow.Author.Count.{below_more}
-use lib.IntN.{pos}
-use lib.ListN.{length, get_or}
-use Rattle.counting_tree.specs.Domain.{Count}
+use lib.ListN.{length}
 use Rattle.counting_tree.proofs.points.read_counts.Goals as goal
 
 pub loop-i-init : goal.loop-i-init

@@ -1,8 +1,5 @@
 -- Each count that is read is known to fit 16 bits.
-use mathlib.Core.Path.{◌≡◌}
 use Prim.Native.Nat.{ℕ, ◌-◌, ◌≤◌, ◌<◌}
-use native.Mathlib.Omega.{arith}
-use borrow.Author.Count.{below_more}
 use lib.IntN.{pos}
 use lib.ListN.{length, get_or}
 use Rattle.counting_tree.specs.Domain.{Count}

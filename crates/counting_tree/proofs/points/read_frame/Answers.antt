@@ -1,9 +1,6 @@
-use Prim.Native.Nat.{ℕ, ◌+◌, ◌-◌, ◌≤◌, ◌<◌}
 use native.Mathlib.Omega.{arith}
 use borrow.Author.Count.{below_more}
-use lib.IntN.{pos}
-use lib.ListN.{length, get_or}
-use Rattle.counting_tree.specs.Domain.{Count, frame_counts}
+use Rattle.counting_tree.specs.Domain.{frame_counts}
 use Rattle.counting_tree.proofs.Lent.{some_channels, inside}
 use Rattle.counting_tree.proofs.points.read_frame.Goals as goal
 
@@ -19,4 +16,4 @@ loop-k-preserved c =
     (omega arith, I.1, I.2, below_more _ _ I.3 c.count-1.given)
 
 pub returns : goal.returns
-returns c =         frame_counts c.args.n c.args.v.channels c.args.points.now c.args.i c.requires.0.room c.requires.1 (λ j m. c.loop-k.invariant.3 j (omega arith))
+returns c = frame_counts c.args.n c.args.v.channels c.args.points.now c.args.i c.requires.0.room c.requires.1 (λ j m. c.loop-k.invariant.3 j (omega arith))

@@ -1,11 +1,8 @@
 -- Each count that is read is known to fit 16 bits.
 use Prim.Native.Nat.{ℕ, ◌+◌, ◌-◌, ◌≤◌, ◌<◌}
-use native.Mathlib.Omega.{arith}
-use borrow.Author.Count.{below_more}
 use lib.IntN.{pos}
 use lib.ListN.{length, get_or}
-use Rattle.counting_tree.specs.Domain.{Count, frame_counts}
-use Rattle.counting_tree.proofs.Lent.{some_channels, inside}
+use Rattle.counting_tree.specs.Domain.{Count}
 use Rattle.counting_tree.proofs.points.read_frame.Given as goal
 
 abbrev pub invariant-loop-k : goal.invariant-loop-k

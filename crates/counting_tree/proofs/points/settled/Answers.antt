@@ -10,7 +10,6 @@ use lib.Ieee.{of_bits, of_int, in_float}
 use Rattle.counting_tree.specs.BySum.{far_fits, four_fits, reach_le, reach_fits}
 use Rattle.counting_tree.proofs.Lent.{some_channels, inside}
 use Rattle.counting_tree.proofs.Settled.{two_is, two_le, by_tests}
-use borrow.Author.Rules.{rules}
 use Rattle.counting_tree.proofs.points.settled.Goals as goal
 
 pub frame_at-a-requires : goal.frame_at-a-requires
@@ -33,7 +32,7 @@ int_to_float-far c =
 
 pub returns-then-sum-far : goal.returns-then-sum-far
 unfolding of_bits of_int
-returns-then-sum-far c =         by_tests c.requires.0 c.args.q c.requires.1 c.frame_at-a.result c.frame_at-a.ensures c.floats.result (take c.args.v.channels c.args.place.centre) c.floats.ensures c.square_sum-sum.result c.square_sum-sum.ensures (2 ^ c.args.v.s) refl true _ c.if-sum-far.true refl
+returns-then-sum-far c = by_tests c.requires.0 c.args.q c.requires.1 c.frame_at-a.result c.frame_at-a.ensures c.floats.result (take c.args.v.channels c.args.place.centre) c.floats.ensures c.square_sum-sum.result c.square_sum-sum.ensures (2 ^ c.args.v.s) refl true _ c.if-sum-far.true refl
 
 pub overflow_add-reach : goal.overflow_add-reach
 overflow_add-reach c = record { fits = omega (arith, two_le c.requires.0) }
@@ -65,8 +64,8 @@ int_to_float-reach c =
 
 pub returns-then-sum-two : goal.returns-then-sum-two
 unfolding of_bits of_int
-returns-then-sum-two c =         by_tests c.requires.0 c.args.q c.requires.1 c.frame_at-a.result c.frame_at-a.ensures c.floats.result (take c.args.v.channels c.args.place.centre) c.floats.ensures c.square_sum-sum.result c.square_sum-sum.ensures (1 * 2 ^ c.args.v.s % 2 ^ 64) (two_is c.requires.0) false true c.if-sum-far.false c.if-sum-two.true
+returns-then-sum-two c = by_tests c.requires.0 c.args.q c.requires.1 c.frame_at-a.result c.frame_at-a.ensures c.floats.result (take c.args.v.channels c.args.place.centre) c.floats.ensures c.square_sum-sum.result c.square_sum-sum.ensures (1 * 2 ^ c.args.v.s % 2 ^ 64) (two_is c.requires.0) false true c.if-sum-far.false c.if-sum-two.true
 
 pub returns : goal.returns
 unfolding of_bits of_int
-returns c =         by_tests c.requires.0 c.args.q c.requires.1 c.frame_at-a.result c.frame_at-a.ensures c.floats.result (take c.args.v.channels c.args.place.centre) c.floats.ensures c.square_sum-sum.result c.square_sum-sum.ensures (1 * 2 ^ c.args.v.s % 2 ^ 64) (two_is c.requires.0) false false c.if-sum-far.false c.if-sum-two.false
+returns c = by_tests c.requires.0 c.args.q c.requires.1 c.frame_at-a.result c.frame_at-a.ensures c.floats.result (take c.args.v.channels c.args.place.centre) c.floats.ensures c.square_sum-sum.result c.square_sum-sum.ensures (1 * 2 ^ c.args.v.s % 2 ^ 64) (two_is c.requires.0) false false c.if-sum-far.false c.if-sum-two.false

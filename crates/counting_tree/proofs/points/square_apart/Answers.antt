@@ -4,7 +4,6 @@ use native.Mathlib.Omega.{arith}
 use lib.Dec.{lit≤}
 use Rattle.counting_tree.proofs.Lent.{some_channels, place, first_place}
 use Rattle.counting_tree.proofs.Squares.{squares_first, squares_more, squares_all}
-use borrow.Author.Rules.{rules}
 use Rattle.counting_tree.proofs.points.square_apart.Goals as goal
 
 pub overflow_mul-a : goal.overflow_mul-a

@@ -1,7 +1,6 @@
 -- The sum of squared differences against t × t.
 use native.Mathlib.Omega.{arith}
 use Rattle.counting_tree.proofs.Lent.{product_fits, within_is}
-use borrow.Author.Rules.{rules}
 use Rattle.counting_tree.proofs.points.within.Goals as goal
 
 pub overflow_mul-result : goal.overflow_mul-result

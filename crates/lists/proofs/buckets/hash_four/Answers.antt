@@ -4,7 +4,6 @@ use lib.ListN.{get_or}
 use Rattle.lists.specs.Buckets.{hashes}
 use Rattle.lists.proofs.BucketLaws.{mix_below, four_hash}
 use Rattle.lists.specs.OrderLaws.{below_at}
-use borrow.Author.Rules.{rules}
 use Rattle.lists.proofs.buckets.hash_four.Goals as goal
 
 pub mix-a-requires : goal.mix-a-requires

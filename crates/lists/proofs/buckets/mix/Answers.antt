@@ -1,6 +1,5 @@
 -- The sum and the product fit.
 use mathlib.Core.Path.{refl}
-use borrow.Author.Rules.{rules}
 use Rattle.lists.specs.Buckets.{mix}
 use Rattle.lists.proofs.buckets.mix.Goals as goal
 

@@ -1,5 +1,4 @@
 -- Two words are laid, in the order of the stores.
-use borrow.Author.Rules.{rules}
 use Rattle.lists.proofs.WordLaws.{two_sets}
 use Rattle.lists.proofs.buckets.push.Goals as goal
 
