@@ -21,7 +21,6 @@ use Rattle.appx_dbscan.specs.Transform.{transform_of, run, outcome_of, labels_le
 use Rattle.appx_dbscan.specs.Promise.{Promise}
 use Rattle.appx_dbscan.specs.Accepted.{promise_accepted}
 use Rattle.appx_dbscan.specs.declared.Outcome.{Outcome}
-use Rattle.appx_dbscan.specs.declared.Outcome.TheVariants as Outcome
 
 module _ (p : Params) (ps : List ℤ) (labels kinds work : List ℕ) where
   abbrev c : Checked

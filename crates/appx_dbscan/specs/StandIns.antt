@@ -10,13 +10,12 @@ use Rattle.hyperparams.specs.declared.Params.{Params}
 use Rattle.hyperparams.specs.declared.ValidParams.{ValidParams}
 use Rattle.hyperparams.specs.declared.Checked.{Checked}
 use Rattle.hyperparams.specs.declared.Refusal.{Refusal}
-use Rattle.hyperparams.specs.Params.{float, slack_at, valid_of, whole_tolerance, slack_power, appx_tolerance_of, checked_of}
+use Rattle.hyperparams.specs.Params.{float, slack_at, whole_tolerance, slack_power, appx_tolerance_of, checked_of}
 use Rattle.counting_tree.specs.Frames.{Frame}
 use Rattle.counting_tree.specs.Geometry.{Geometry, geometry_of, short, N, FarReach}
 use Rattle.cells_grid.specs.Cells.{first, listed, core, core_cells, count}
 use Rattle.clustering.specs.Clusters.{connected, place, clusters, label_by, kind_of, none}
 use Rattle.appx_dbscan.specs.declared.Outcome.{Outcome}
-use Rattle.appx_dbscan.specs.declared.Outcome.TheVariants as Outcome
 use Rattle.appx_dbscan.specs.Transform.{Answer, transform_of, run, outcome_of, labels_left, checked_call}
 use Rattle.appx_dbscan.specs.Promise.{Chain, alone, step, CoreFrame, into_listed, Border, Noise, Promise}
 use Rattle.appx_dbscan.specs.Small.{params, minus, valid, frames, grid, differ, differ_at}

@@ -12,7 +12,6 @@ use Rattle.counting_tree.specs.Geometry.{Geometry, geometry_of, short}
 use Rattle.cells_grid.specs.Cells.{core}
 use Rattle.clustering.specs.Clusters.{clusters, place, label_by, kind_of}
 use Rattle.appx_dbscan.specs.declared.Outcome.{Outcome}
-use Rattle.appx_dbscan.specs.declared.Outcome.TheVariants as Outcome
 
 -- "Results: per frame a label .. and a kind byte ..; also the number of clusters and of core frames."
 pub record Answer : Type 0 where

@@ -24,7 +24,7 @@ use Rattle.blocks.specs.declared.Stretch.{Stretch}
 use Rattle.blocks.specs.Blocks.{raise, width, own_block, same_nats, frame_at, row_of, row_hash, row_around, bucket_at, stretch_in}
 use Rattle.blocks.specs.AroundLaws.{Rows}
 use Rattle.blocks.specs.OwnRowLaws.{own_which, rows_own}
-use Rattle.cells_grid.specs.Cells.{first, neighbour}
+use Rattle.cells_grid.specs.Cells.{neighbour}
 use Rattle.cells_grid.specs.Crowding.{neighbour_in}
 use Rattle.cells_grid.specs.Pairs.{raised, Room, size_in, squares_in, Laid, row_for, low_in, later_in, later_row, later_of, risen, others}
 use Rattle.cells_grid.proofs.RaisedLaws.{raised_part, raised_above, raised_set, many_fits, Raising, raising_start, raising_length, raising_room, raising_more, raising_end, raising_left, laid_raised}

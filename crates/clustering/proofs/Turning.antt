@@ -7,9 +7,9 @@ use native.Mathlib.Omega.{arith}
 use borrow.Author.Tests.{lt-ltb, le-ltb, not-true, not-false}
 use lib.Dec.{eqb}
 use lib.IntN.{ℤ}
-use lib.ListN.{length, get_or}
+use lib.ListN.{get_or}
 use Rattle.lists.specs.Lists.{any, In, nonzero}
-use Rattle.lists.specs.Words.{part, rest}
+use Rattle.lists.specs.Words.{rest}
 use Rattle.lists.specs.ListLaws.{true_T, T_true, any_in}
 use Rattle.lists.proofs.PartLaws.{part_at}
 use Rattle.lists.proofs.LoopLaws.{rest_start, rest_step, rest_end}

@@ -1,6 +1,6 @@
 -- The labels of the source's `transform`, in whatever order it takes cells, lists, children and sets, are those of the definition
 -- "up to the numbering of clusters and the choice among a border frame's clusters, which document 01 fixes" (mission, demand 2).
-use Rattle.std.specs.Prelude.{◌≡◌, refl, ◌↔◌, not, cond, ℕ, ◌<◌, T}
+use Rattle.std.specs.Prelude.{◌≡◌, ◌↔◌, not, cond, ℕ, ◌<◌, T}
 use mathlib.Core.List.Permᴰ
 use mathlib.Core.List.{List, Permᴰ}
 use Rattle.std.proofs.Math.Option.{Option, none, some, map}

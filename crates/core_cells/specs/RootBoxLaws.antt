@@ -1,7 +1,7 @@
 -- Laws of a cell's root box. It is that of each frame of the cell: where it settles one frame's path, it settles the count in the cell's tree.
 use Rattle.std.specs.Prelude.{◌≡◌, Bool, true, false, List, ℕ, ◌<◌, T, ℤ, length, take, replicate}
 use Rattle.std.proofs.Common.{sym, ap, ◌∙◌, arith}
-use Rattle.lists.specs.Lists.{In, any, nonzero}
+use Rattle.lists.specs.Lists.{any, nonzero}
 use Rattle.lists.specs.ListLaws.{true_T, T_true, any_in, any_none}
 use Rattle.lists.proofs.PartLaws.{part_same}
 use Rattle.hyperparams.specs.declared.ValidParams.{ValidParams}

@@ -1,9 +1,8 @@
 use mathlib.Core.Path.{refl}
-use Prim.Native.Nat.{◌+◌, ◌-◌, ◌*◌}
+use Prim.Native.Nat.{◌*◌}
 use native.Mathlib.Omega.{arith}
-use lib.ListN.{get_or}
 use Rattle.lists.proofs.PartLaws.{part_below}
-use Rattle.lists.proofs.LoopLaws.{Fill, fill_start, fill_length, fill_step, fill_part}
+use Rattle.lists.proofs.LoopLaws.{fill_start, fill_length, fill_step, fill_part}
 use Rattle.appx_dbscan.proofs.copy_kinds.Goals as goal
 
 pub loop-i-init : goal.loop-i-init

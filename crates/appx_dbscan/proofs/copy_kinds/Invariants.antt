@@ -1,10 +1,7 @@
 -- `copy_kinds` meets its contract.
-use mathlib.Core.Path.{refl}
 use Prim.Native.Nat.{◌+◌, ◌-◌, ◌*◌}
-use native.Mathlib.Omega.{arith}
 use lib.ListN.{get_or}
-use Rattle.lists.proofs.PartLaws.{part_below}
-use Rattle.lists.proofs.LoopLaws.{Fill, fill_start, fill_length, fill_step, fill_part}
+use Rattle.lists.proofs.LoopLaws.{Fill}
 use Rattle.appx_dbscan.proofs.copy_kinds.Given as goal
 
 abbrev pub invariant-loop-i : goal.invariant-loop-i

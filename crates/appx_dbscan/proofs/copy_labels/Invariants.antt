@@ -1,9 +1,7 @@
 -- `copy_labels` meets its contract.
-use mathlib.Core.Path.{refl}
 use Prim.Native.Nat.{◌+◌, ◌-◌, ◌*◌}
-use native.Mathlib.Omega.{arith}
 use lib.ListN.{get_or}
-use Rattle.lists.proofs.LoopLaws.{Fill, fill_start, fill_length, fill_step, fill_part}
+use Rattle.lists.proofs.LoopLaws.{Fill}
 use Rattle.appx_dbscan.proofs.copy_labels.Given as goal
 
 abbrev pub invariant-loop-i : goal.invariant-loop-i

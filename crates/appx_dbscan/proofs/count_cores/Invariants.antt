@@ -1,13 +1,9 @@
 -- `count_cores` meets its contract.
-use mathlib.Core.Path.{◌≡◌, refl, sym, ap, ◌∙◌}
-use mathlib.Core.Bool.{Bool, true, false, cond}
+use mathlib.Core.Path.{◌≡◌}
 use Prim.Native.Nat.{ℕ, ◌+◌, ◌-◌, ◌*◌, ◌≤◌}
-use native.Mathlib.Nat.{add-zero}
-use native.Mathlib.Omega.{arith}
 use lib.Dec.{eqb}
 use lib.ListN.{get_or}
 use Rattle.lists.specs.Lists.{numbers, how_many}
-use Rattle.lists.specs.OrderLaws.{many_snoc}
 use Rattle.appx_dbscan.proofs.count_cores.Given as goal
 
 abbrev pub invariant-loop-i : goal.invariant-loop-i

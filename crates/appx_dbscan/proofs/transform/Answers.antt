@@ -1,7 +1,6 @@
 -- `transform` meets its contract.
 use mathlib.Core.Path.{sym, ◌∙◌}
 use Rattle.appx_dbscan.proofs.Call.{refused, some_channels, ready, labelled}
-use borrow.Author.Rules.{rules}
 use Rattle.appx_dbscan.proofs.transform.Goals as goal
 
 pub nonzero_div-n : goal.nonzero_div-n

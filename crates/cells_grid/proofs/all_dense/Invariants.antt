@@ -1,11 +1,9 @@
 -- The invariant: the cells before c are dense.
 use Prim.Native.Nat.{ℕ, ◌-◌, ◌<◌, ◌≤◌}
-use native.Mathlib.Omega.{arith}
 use lib.Dec.{T}
 use Rattle.counting_tree.specs.Ready.{geometry_at}
 use Rattle.cells_grid.specs.Cells.{dense}
 use Rattle.cells_grid.specs.Arrangement.{cell_at}
-use Rattle.cells_grid.proofs.Core.{dense_end, dense_start, dense_yes, dense_no, dense_more, dense_all}
 use Rattle.cells_grid.proofs.all_dense.Given as goal
 
 abbrev pub invariant-loop-c : goal.invariant-loop-c

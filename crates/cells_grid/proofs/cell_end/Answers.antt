@@ -1,6 +1,5 @@
 -- Both arms of `end_in`.
 use mathlib.Core.Path.{sym, ◌∙◌}
-use borrow.Author.Rules.{rules}
 use borrow.Author.Tests.{lt-ltb, le-ltb}
 use Rattle.cells_grid.specs.Places.{end_in}
 use Rattle.cells_grid.proofs.cell_end.Goals as goal

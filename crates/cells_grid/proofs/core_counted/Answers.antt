@@ -3,7 +3,6 @@ use mathlib.Core.Path.{◌∙◌}
 use native.Mathlib.Omega.{arith}
 use Rattle.cells_grid.proofs.PairLaws.{others_few}
 use Rattle.cells_grid.proofs.Core.{core_dense, counted_yes, counted_no}
-use borrow.Author.Rules.{rules}
 use Rattle.cells_grid.proofs.core_counted.Goals as goal
 
 pub returns-then-in_dense : goal.returns-then-in_dense

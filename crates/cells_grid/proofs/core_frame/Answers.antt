@@ -1,7 +1,6 @@
 -- A frame is core if its cell is dense, else if its listed cells are crowded.
 use mathlib.Core.Bool.{true, false}
 use Rattle.cells_grid.proofs.Core.{all_cells, core_dense, core_sparse}
-use borrow.Author.Rules.{rules}
 use Rattle.cells_grid.proofs.core_frame.Goals as goal
 
 pub returns-then-in_dense : goal.returns-then-in_dense

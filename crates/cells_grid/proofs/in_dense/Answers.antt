@@ -1,7 +1,6 @@
 -- The size of the frame's cell, by where its frames begin and end among the places.
 use native.Mathlib.Omega.{arith}
 use Rattle.cells_grid.proofs.Core.{own_fits, own_end, own_start, own_dense}
-use borrow.Author.Rules.{rules}
 use Rattle.cells_grid.proofs.in_dense.Goals as goal
 
 pub word-c-requires : goal.word-c-requires

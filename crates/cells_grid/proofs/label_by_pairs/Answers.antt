@@ -1,9 +1,6 @@
 use mathlib.Core.Path.{refl, ◌∙◌}
-use Prim.Native.Nat.{◌-◌, ◌*◌}
 use native.Mathlib.Omega.{arith}
-use Rattle.lists.proofs.LoopLaws.{Fill, fill_step}
-use Rattle.counting_tree.specs.Ready.{geometry_at}
-use Rattle.cells_grid.specs.Arrangement.{core_bit}
+use Rattle.lists.proofs.LoopLaws.{fill_step}
 use Rattle.cells_grid.proofs.Core.{bits_start, bits_arranged, pairs_laid, pairs_length, pairs_word, pairs_end}
 use Rattle.cells_grid.proofs.label_by_pairs.Goals as goal
 

@@ -1,11 +1,8 @@
 -- The invariant: the frames before i are told core or not, over the words with the pairs counted.
-use mathlib.Core.Path.{refl, ◌∙◌}
 use Prim.Native.Nat.{◌-◌, ◌*◌}
-use native.Mathlib.Omega.{arith}
-use Rattle.lists.proofs.LoopLaws.{Fill, fill_step}
+use Rattle.lists.proofs.LoopLaws.{Fill}
 use Rattle.counting_tree.specs.Ready.{geometry_at}
 use Rattle.cells_grid.specs.Arrangement.{core_bit}
-use Rattle.cells_grid.proofs.Core.{bits_start, bits_arranged, pairs_laid, pairs_length, pairs_word, pairs_end}
 use Rattle.cells_grid.proofs.label_by_pairs.Given as goal
 
 abbrev pub invariant-loop-i : goal.invariant-loop-i

@@ -1,9 +1,6 @@
 use mathlib.Core.Path.{refl}
-use Prim.Native.Nat.{◌-◌, ◌*◌}
 use native.Mathlib.Omega.{arith}
-use Rattle.lists.proofs.LoopLaws.{Fill, fill_step, fill_length, fill_end}
-use Rattle.counting_tree.specs.Ready.{geometry_at}
-use Rattle.cells_grid.specs.Arrangement.{core_bit}
+use Rattle.lists.proofs.LoopLaws.{fill_step, fill_length, fill_end}
 use Rattle.cells_grid.proofs.Core.{bits_start, bits_laid, bits_arranged}
 use Rattle.cells_grid.proofs.label_by_search.Goals as goal
 

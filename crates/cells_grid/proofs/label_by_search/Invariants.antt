@@ -1,11 +1,8 @@
 -- The invariant: the frames before i are told core or not.
-use mathlib.Core.Path.{refl}
 use Prim.Native.Nat.{◌-◌, ◌*◌}
-use native.Mathlib.Omega.{arith}
-use Rattle.lists.proofs.LoopLaws.{Fill, fill_step, fill_length, fill_end}
+use Rattle.lists.proofs.LoopLaws.{Fill}
 use Rattle.counting_tree.specs.Ready.{geometry_at}
 use Rattle.cells_grid.specs.Arrangement.{core_bit}
-use Rattle.cells_grid.proofs.Core.{bits_start, bits_laid, bits_arranged}
 use Rattle.cells_grid.proofs.label_by_search.Given as goal
 
 abbrev pub invariant-loop-i : goal.invariant-loop-i

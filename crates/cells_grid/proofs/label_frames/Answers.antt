@@ -1,10 +1,8 @@
 -- The frames are sorted. Both ways write the same, and then the sorted frames are cleared.
 use mathlib.Core.Path.{◌∙◌}
-use mathlib.Core.Logic.{⊎_elim}
 use native.Mathlib.Omega.{arith}
 use Rattle.cells_grid.proofs.PairLoops.{ends_rise}
 use Rattle.cells_grid.proofs.Core.{label_sort, label_laid, label_clear, label_kept, label_end}
-use borrow.Author.Rules.{rules}
 use Rattle.cells_grid.proofs.label_frames.Goals as goal
 use Rattle.cells_grid.proofs.label_frames.Goals.{then-sparse, else-sparse}
 

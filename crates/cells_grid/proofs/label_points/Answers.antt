@@ -3,7 +3,6 @@ use mathlib.Core.Path.{ap, ◌∙◌}
 use Prim.Native.Nat.{◌*◌}
 use Rattle.lists.specs.Words.{over}
 use Rattle.cells_grid.proofs.Core.{all_core}
-use borrow.Author.Rules.{rules}
 use Rattle.cells_grid.proofs.label_points.Goals as goal
 
 pub returns-then-all_dense : goal.returns-then-all_dense

@@ -1,11 +1,6 @@
 use mathlib.Core.Path.{sym, ◌∙◌}
-use Prim.Native.Nat.{◌-◌, ◌*◌}
 use native.Mathlib.Omega.{arith}
-use Rattle.lists.specs.Lists.{how_many}
-use Rattle.lists.proofs.LoopLaws.{Scan, scan_hit, scan_miss, scan_end}
-use Rattle.counting_tree.specs.Ready.{geometry_at}
-use Rattle.cells_grid.specs.Cells.{members}
-use Rattle.cells_grid.specs.Arrangement.{cell_at}
+use Rattle.lists.proofs.LoopLaws.{scan_hit, scan_miss, scan_end}
 use Rattle.cells_grid.proofs.InRange.{range_fits, range_end, range_scan, range_below}
 use Rattle.cells_grid.proofs.points_in_range.Goals as goal
 
@@ -28,7 +23,7 @@ pub word-j-requires : goal.word-j-requires
 word-j-requires c = omega (arith, c.loop-p.invariant.fit)
 
 pub within-requires : goal.within-requires
-within-requires c =         (c.requires.0, c.requires.2, range_below c.requires c.word-p.ensures c.cell_end-end.ensures c.loop-p-test.true c.word-j.ensures)
+within-requires c = (c.requires.0, c.requires.2, range_below c.requires c.word-p.ensures c.cell_end-end.ensures c.loop-p-test.true c.word-j.ensures)
 
 pub overflow_add-m : goal.overflow_add-m
 overflow_add-m c = omega (arith, c.loop-p.invariant.low)

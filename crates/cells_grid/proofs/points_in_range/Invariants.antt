@@ -1,13 +1,10 @@
 -- The places from the cell's start to its end are its frames: the invariant is the count of those passed and of those left.
-use mathlib.Core.Path.{sym, ◌∙◌}
 use Prim.Native.Nat.{◌-◌, ◌*◌}
-use native.Mathlib.Omega.{arith}
 use Rattle.lists.specs.Lists.{how_many}
-use Rattle.lists.proofs.LoopLaws.{Scan, scan_hit, scan_miss, scan_end}
+use Rattle.lists.proofs.LoopLaws.{Scan}
 use Rattle.counting_tree.specs.Ready.{geometry_at}
 use Rattle.cells_grid.specs.Cells.{members}
 use Rattle.cells_grid.specs.Arrangement.{cell_at}
-use Rattle.cells_grid.proofs.InRange.{range_fits, range_end, range_scan, range_below}
 use Rattle.cells_grid.proofs.points_in_range.Given as goal
 
 abbrev pub invariant-loop-p : goal.invariant-loop-p

@@ -1,6 +1,5 @@
 -- The numbers and first frames, then what `arrange` makes of the numbers, which are the cell numbers.
 use Rattle.cells_grid.proofs.Grow.{numbered_fits, populated_is}
-use borrow.Author.Rules.{rules}
 use Rattle.cells_grid.proofs.populate.Goals as goal
 
 pub insert_points-k-requires : goal.insert_points-k-requires

@@ -2,7 +2,6 @@
 use native.Mathlib.Omega.{arith}
 use Rattle.clustering.proofs.Held.{tree_held}
 use Rattle.clustering.proofs.Whole.{search₀, can_number, clusters_counted, can_label, can_clear, all_cleared}
-use borrow.Author.Rules.{rules}
 use Rattle.clustering.proofs.label.Goals as goal
 
 pub sort_cells-requires : goal.sort_cells-requires
@@ -14,7 +13,7 @@ unite_listed_cells-requires c =
     (c.requires.0, z.0, z.1.0, z.1.2, z.1.1)
 
 pub number_clusters-m-requires : goal.number_clusters-m-requires
-number_clusters-m-requires c =         can_number c.requires.0 c.requires.1 c.requires.2 c.requires.3 c.sort_cells.ensures c.unite_listed_cells.ensures
+number_clusters-m-requires c = can_number c.requires.0 c.requires.1 c.requires.2 c.requires.3 c.sort_cells.ensures c.unite_listed_cells.ensures
 
 pub label_frames-requires : goal.label_frames-requires
 label_frames-requires c =
@@ -22,7 +21,7 @@ label_frames-requires c =
     record { ready = z.0; cells_sorted = z.1.0; m_value = z.1.1 }
 
 pub clear_words-requires : goal.clear_words-requires
-clear_words-requires c =         omega (arith, can_clear c.requires.0 c.requires.1 c.requires.2 c.requires.3 c.sort_cells.ensures c.unite_listed_cells.ensures c.number_clusters-m.ensures.work c.label_frames.ensures)
+clear_words-requires c = omega (arith, can_clear c.requires.0 c.requires.1 c.requires.2 c.requires.3 c.sort_cells.ensures c.unite_listed_cells.ensures c.number_clusters-m.ensures.work c.label_frames.ensures)
 
 pub returns : goal.returns
 returns c = record { value = clusters_counted c.requires.0 c.requires.1 c.requires.2 c.requires.3 c.sort_cells.ensures c.unite_listed_cells.ensures c.number_clusters-m.ensures.count; work_after = all_cleared c.requires.0 c.requires.1 c.requires.2 c.requires.3 c.sort_cells.ensures c.unite_listed_cells.ensures c.number_clusters-m.ensures.work c.label_frames.ensures c.clear_words.ensures }

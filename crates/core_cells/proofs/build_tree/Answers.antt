@@ -2,17 +2,9 @@
 use mathlib.Core.Path.{ap, ◌∙◌}
 use native.Mathlib.Omega.{arith}
 use lib.ListN.{length, length-set}
-use borrow.Author.Rules.{rules}
 use Rattle.counting_tree.specs.Ready.{geometry_at}
 use Rattle.core_cells.proofs.Building.{Ripe, Gathered, ripe, cells_few, can_gather, gathered, gathered_length, emptied, small_next, none_work, small_work}
 use Rattle.core_cells.proofs.Building.{can_build, word_low, some_next, built_length, cleared_length, some_work}
-use Rattle.core_cells.proofs.build_tree.Reads as reads
-use Rattle.cells_grid.proofs.cell_end.Reads as cell-end-reads
-use Rattle.lists.proofs.word.Reads as word-reads
-use Rattle.core_cells.proofs.gather_core.Reads as gather-core-reads
-use Rattle.tree_structure.proofs.build_structure.Reads as build-structure-reads
-use Rattle.lists.proofs.clear_words.Reads as clear-words-reads
-
 -- at the entry
 use Rattle.core_cells.proofs.build_tree.Goals as goal
 
@@ -43,118 +35,118 @@ gather_core-m-requires c =
 pub overflow_add-slot : goal.overflow_add-slot
 overflow_add-slot c =
     let ripe_at : Ripe (geometry_at c.args.v c.args.n c.args.points.now) c.args.n c.args.k c.args.work.now = ripe c.requires.ready.0 c.requires.ready.1 c.requires.s_in_bounds in
-    let gathered_at : Gathered (geometry_at c.args.v c.args.n c.args.points.now) c.args.n c.args.k c.args.work.now c.args.few c.args.c c.args.at c.gather_core-m.result c.gather_core-m.new.work =         gathered ripe_at c.requires.c_lt_k.0 c.requires.c_lt_k.1 c.word-from.ensures c.cell_end-to.ensures c.gather_core-m.ensures.value c.gather_core-m.ensures.work_after in
+    let gathered_at : Gathered (geometry_at c.args.v c.args.n c.args.points.now) c.args.n c.args.k c.args.work.now c.args.few c.args.c c.args.at c.gather_core-m.result c.gather_core-m.new.work = gathered ripe_at c.requires.c_lt_k.0 c.requires.c_lt_k.1 c.word-from.ensures c.cell_end-to.ensures c.gather_core-m.ensures.value c.gather_core-m.ensures.work_after in
     let g = gathered_at in
     omega (arith, cells_few g.ripe, g.ripe.few, g.inside)
 
 pub offset_bounds-work-slot : goal.offset_bounds-work-slot
 offset_bounds-work-slot c =
     let ripe_at : Ripe (geometry_at c.args.v c.args.n c.args.points.now) c.args.n c.args.k c.args.work.now = ripe c.requires.ready.0 c.requires.ready.1 c.requires.s_in_bounds in
-    let gathered_at : Gathered (geometry_at c.args.v c.args.n c.args.points.now) c.args.n c.args.k c.args.work.now c.args.few c.args.c c.args.at c.gather_core-m.result c.gather_core-m.new.work =         gathered ripe_at c.requires.c_lt_k.0 c.requires.c_lt_k.1 c.word-from.ensures c.cell_end-to.ensures c.gather_core-m.ensures.value c.gather_core-m.ensures.work_after in
+    let gathered_at : Gathered (geometry_at c.args.v c.args.n c.args.points.now) c.args.n c.args.k c.args.work.now c.args.few c.args.c c.args.at c.gather_core-m.result c.gather_core-m.new.work = gathered ripe_at c.requires.c_lt_k.0 c.requires.c_lt_k.1 c.word-from.ensures c.cell_end-to.ensures c.gather_core-m.ensures.value c.gather_core-m.ensures.work_after in
     let g = gathered_at in
     omega (arith, cells_few g.ripe, g.ripe.few, g.inside)
 
 pub bounds-work-slot : goal.bounds-work-slot
 bounds-work-slot c =
     let ripe_at : Ripe (geometry_at c.args.v c.args.n c.args.points.now) c.args.n c.args.k c.args.work.now = ripe c.requires.ready.0 c.requires.ready.1 c.requires.s_in_bounds in
-    let gathered_at : Gathered (geometry_at c.args.v c.args.n c.args.points.now) c.args.n c.args.k c.args.work.now c.args.few c.args.c c.args.at c.gather_core-m.result c.gather_core-m.new.work =         gathered ripe_at c.requires.c_lt_k.0 c.requires.c_lt_k.1 c.word-from.ensures c.cell_end-to.ensures c.gather_core-m.ensures.value c.gather_core-m.ensures.work_after in
+    let gathered_at : Gathered (geometry_at c.args.v c.args.n c.args.points.now) c.args.n c.args.k c.args.work.now c.args.few c.args.c c.args.at c.gather_core-m.result c.gather_core-m.new.work = gathered ripe_at c.requires.c_lt_k.0 c.requires.c_lt_k.1 c.word-from.ensures c.cell_end-to.ensures c.gather_core-m.ensures.value c.gather_core-m.ensures.work_after in
     let g = gathered_at in
     omega (arith, cells_few g.ripe, g.ripe.room, g.inside, gathered_length g)
 
 pub returns-then-m-eq0 : goal.returns-then-m-eq0
 returns-then-m-eq0 c =
     let ripe_at : Ripe (geometry_at c.args.v c.args.n c.args.points.now) c.args.n c.args.k c.args.work.now = ripe c.requires.ready.0 c.requires.ready.1 c.requires.s_in_bounds in
-    let gathered_at : Gathered (geometry_at c.args.v c.args.n c.args.points.now) c.args.n c.args.k c.args.work.now c.args.few c.args.c c.args.at c.gather_core-m.result c.gather_core-m.new.work =         gathered ripe_at c.requires.c_lt_k.0 c.requires.c_lt_k.1 c.word-from.ensures c.cell_end-to.ensures c.gather_core-m.ensures.value c.gather_core-m.ensures.work_after in
+    let gathered_at : Gathered (geometry_at c.args.v c.args.n c.args.points.now) c.args.n c.args.k c.args.work.now c.args.few c.args.c c.args.at c.gather_core-m.result c.gather_core-m.new.work = gathered ripe_at c.requires.c_lt_k.0 c.requires.c_lt_k.1 c.word-from.ensures c.cell_end-to.ensures c.gather_core-m.ensures.value c.gather_core-m.ensures.work_after in
     let g = gathered_at in
     record { value = small_next g (omega (arith, c.if-m-eq0.true)); work_after = none_work g (omega (arith, c.if-m-eq0.true)) c.if-m-eq0.true }
 
 pub clear_words-requires : goal.clear_words-requires
 clear_words-requires c =
     let ripe_at : Ripe (geometry_at c.args.v c.args.n c.args.points.now) c.args.n c.args.k c.args.work.now = ripe c.requires.ready.0 c.requires.ready.1 c.requires.s_in_bounds in
-    let gathered_at : Gathered (geometry_at c.args.v c.args.n c.args.points.now) c.args.n c.args.k c.args.work.now c.args.few c.args.c c.args.at c.gather_core-m.result c.gather_core-m.new.work =         gathered ripe_at c.requires.c_lt_k.0 c.requires.c_lt_k.1 c.word-from.ensures c.cell_end-to.ensures c.gather_core-m.ensures.value c.gather_core-m.ensures.work_after in
+    let gathered_at : Gathered (geometry_at c.args.v c.args.n c.args.points.now) c.args.n c.args.k c.args.work.now c.args.few c.args.c c.args.at c.gather_core-m.result c.gather_core-m.new.work = gathered ripe_at c.requires.c_lt_k.0 c.requires.c_lt_k.1 c.word-from.ensures c.cell_end-to.ensures c.gather_core-m.ensures.value c.gather_core-m.ensures.work_after in
     let g = gathered_at in
     omega (arith, g.ripe.room, g.most, gathered_length g)
 
 pub offset_bounds-work-slot-then-m-few : goal.offset_bounds-work-slot-then-m-few
 offset_bounds-work-slot-then-m-few c =
     let ripe_at : Ripe (geometry_at c.args.v c.args.n c.args.points.now) c.args.n c.args.k c.args.work.now = ripe c.requires.ready.0 c.requires.ready.1 c.requires.s_in_bounds in
-    let gathered_at : Gathered (geometry_at c.args.v c.args.n c.args.points.now) c.args.n c.args.k c.args.work.now c.args.few c.args.c c.args.at c.gather_core-m.result c.gather_core-m.new.work =         gathered ripe_at c.requires.c_lt_k.0 c.requires.c_lt_k.1 c.word-from.ensures c.cell_end-to.ensures c.gather_core-m.ensures.value c.gather_core-m.ensures.work_after in
+    let gathered_at : Gathered (geometry_at c.args.v c.args.n c.args.points.now) c.args.n c.args.k c.args.work.now c.args.few c.args.c c.args.at c.gather_core-m.result c.gather_core-m.new.work = gathered ripe_at c.requires.c_lt_k.0 c.requires.c_lt_k.1 c.word-from.ensures c.cell_end-to.ensures c.gather_core-m.ensures.value c.gather_core-m.ensures.work_after in
     let g = gathered_at in
     omega (arith, cells_few g.ripe, g.ripe.few, g.inside)
 
 pub bounds-work-slot-then-m-few : goal.bounds-work-slot-then-m-few
 bounds-work-slot-then-m-few c =
     let ripe_at : Ripe (geometry_at c.args.v c.args.n c.args.points.now) c.args.n c.args.k c.args.work.now = ripe c.requires.ready.0 c.requires.ready.1 c.requires.s_in_bounds in
-    let gathered_at : Gathered (geometry_at c.args.v c.args.n c.args.points.now) c.args.n c.args.k c.args.work.now c.args.few c.args.c c.args.at c.gather_core-m.result c.gather_core-m.new.work =         gathered ripe_at c.requires.c_lt_k.0 c.requires.c_lt_k.1 c.word-from.ensures c.cell_end-to.ensures c.gather_core-m.ensures.value c.gather_core-m.ensures.work_after in
+    let gathered_at : Gathered (geometry_at c.args.v c.args.n c.args.points.now) c.args.n c.args.k c.args.work.now c.args.few c.args.c c.args.at c.gather_core-m.result c.gather_core-m.new.work = gathered ripe_at c.requires.c_lt_k.0 c.requires.c_lt_k.1 c.word-from.ensures c.cell_end-to.ensures c.gather_core-m.ensures.value c.gather_core-m.ensures.work_after in
     let g = gathered_at in
     omega (arith, cells_few g.ripe, g.ripe.room, g.inside, ap length (c.clear_words.ensures ∙ emptied g))
 
 pub shape_of-work-then-m-few : goal.shape_of-work-then-m-few
 shape_of-work-then-m-few c =
     let ripe_at : Ripe (geometry_at c.args.v c.args.n c.args.points.now) c.args.n c.args.k c.args.work.now = ripe c.requires.ready.0 c.requires.ready.1 c.requires.s_in_bounds in
-    let gathered_at : Gathered (geometry_at c.args.v c.args.n c.args.points.now) c.args.n c.args.k c.args.work.now c.args.few c.args.c c.args.at c.gather_core-m.result c.gather_core-m.new.work =         gathered ripe_at c.requires.c_lt_k.0 c.requires.c_lt_k.1 c.word-from.ensures c.cell_end-to.ensures c.gather_core-m.ensures.value c.gather_core-m.ensures.work_after in
+    let gathered_at : Gathered (geometry_at c.args.v c.args.n c.args.points.now) c.args.n c.args.k c.args.work.now c.args.few c.args.c c.args.at c.gather_core-m.result c.gather_core-m.new.work = gathered ripe_at c.requires.c_lt_k.0 c.requires.c_lt_k.1 c.word-from.ensures c.cell_end-to.ensures c.gather_core-m.ensures.value c.gather_core-m.ensures.work_after in
     let g = gathered_at in
     simp length-set (ap length (c.clear_words.ensures ∙ emptied g))
 
 pub returns-then-m-few : goal.returns-then-m-few
 returns-then-m-few c =
     let ripe_at : Ripe (geometry_at c.args.v c.args.n c.args.points.now) c.args.n c.args.k c.args.work.now = ripe c.requires.ready.0 c.requires.ready.1 c.requires.s_in_bounds in
-    let gathered_at : Gathered (geometry_at c.args.v c.args.n c.args.points.now) c.args.n c.args.k c.args.work.now c.args.few c.args.c c.args.at c.gather_core-m.result c.gather_core-m.new.work =         gathered ripe_at c.requires.c_lt_k.0 c.requires.c_lt_k.1 c.word-from.ensures c.cell_end-to.ensures c.gather_core-m.ensures.value c.gather_core-m.ensures.work_after in
+    let gathered_at : Gathered (geometry_at c.args.v c.args.n c.args.points.now) c.args.n c.args.k c.args.work.now c.args.few c.args.c c.args.at c.gather_core-m.result c.gather_core-m.new.work = gathered ripe_at c.requires.c_lt_k.0 c.requires.c_lt_k.1 c.word-from.ensures c.cell_end-to.ensures c.gather_core-m.ensures.value c.gather_core-m.ensures.work_after in
     let g = gathered_at in
     record { value = small_next g c.if-m-few.true; work_after = small_work g c.if-m-few.true c.if-m-eq0.false c.clear_words.ensures }
 
 pub overflow_add-hi : goal.overflow_add-hi
 overflow_add-hi c =
     let ripe_at : Ripe (geometry_at c.args.v c.args.n c.args.points.now) c.args.n c.args.k c.args.work.now = ripe c.requires.ready.0 c.requires.ready.1 c.requires.s_in_bounds in
-    let gathered_at : Gathered (geometry_at c.args.v c.args.n c.args.points.now) c.args.n c.args.k c.args.work.now c.args.few c.args.c c.args.at c.gather_core-m.result c.gather_core-m.new.work =         gathered ripe_at c.requires.c_lt_k.0 c.requires.c_lt_k.1 c.word-from.ensures c.cell_end-to.ensures c.gather_core-m.ensures.value c.gather_core-m.ensures.work_after in
+    let gathered_at : Gathered (geometry_at c.args.v c.args.n c.args.points.now) c.args.n c.args.k c.args.work.now c.args.few c.args.c c.args.at c.gather_core-m.result c.gather_core-m.new.work = gathered ripe_at c.requires.c_lt_k.0 c.requires.c_lt_k.1 c.word-from.ensures c.cell_end-to.ensures c.gather_core-m.ensures.value c.gather_core-m.ensures.work_after in
     let g = gathered_at in
     omega (arith, g.ripe.few, g.most)
 
 pub build_structure-next-requires : goal.build_structure-next-requires
 build_structure-next-requires c =
     let ripe_at : Ripe (geometry_at c.args.v c.args.n c.args.points.now) c.args.n c.args.k c.args.work.now = ripe c.requires.ready.0 c.requires.ready.1 c.requires.s_in_bounds in
-    let gathered_at : Gathered (geometry_at c.args.v c.args.n c.args.points.now) c.args.n c.args.k c.args.work.now c.args.few c.args.c c.args.at c.gather_core-m.result c.gather_core-m.new.work =         gathered ripe_at c.requires.c_lt_k.0 c.requires.c_lt_k.1 c.word-from.ensures c.cell_end-to.ensures c.gather_core-m.ensures.value c.gather_core-m.ensures.work_after in
+    let gathered_at : Gathered (geometry_at c.args.v c.args.n c.args.points.now) c.args.n c.args.k c.args.work.now c.args.few c.args.c c.args.at c.gather_core-m.result c.gather_core-m.new.work = gathered ripe_at c.requires.c_lt_k.0 c.requires.c_lt_k.1 c.word-from.ensures c.cell_end-to.ensures c.gather_core-m.ensures.value c.gather_core-m.ensures.work_after in
     let g = gathered_at in
     record { ready = c.requires.ready.0; can_build = can_build g c.if-m-few.false }
 
 pub clear_words-requires-2 : goal.clear_words-requires-2
 clear_words-requires-2 c =
     let ripe_at : Ripe (geometry_at c.args.v c.args.n c.args.points.now) c.args.n c.args.k c.args.work.now = ripe c.requires.ready.0 c.requires.ready.1 c.requires.s_in_bounds in
-    let gathered_at : Gathered (geometry_at c.args.v c.args.n c.args.points.now) c.args.n c.args.k c.args.work.now c.args.few c.args.c c.args.at c.gather_core-m.result c.gather_core-m.new.work =         gathered ripe_at c.requires.c_lt_k.0 c.requires.c_lt_k.1 c.word-from.ensures c.cell_end-to.ensures c.gather_core-m.ensures.value c.gather_core-m.ensures.work_after in
+    let gathered_at : Gathered (geometry_at c.args.v c.args.n c.args.points.now) c.args.n c.args.k c.args.work.now c.args.few c.args.c c.args.at c.gather_core-m.result c.gather_core-m.new.work = gathered ripe_at c.requires.c_lt_k.0 c.requires.c_lt_k.1 c.word-from.ensures c.cell_end-to.ensures c.gather_core-m.ensures.value c.gather_core-m.ensures.work_after in
     let g = gathered_at in
     omega (arith, g.ripe.room, g.most, built_length g c.if-m-few.false c.build_structure-next.ensures.result_value c.build_structure-next.ensures.work_after)
 
 pub overflow_cast-work : goal.overflow_cast-work
 overflow_cast-work c =
     let ripe_at : Ripe (geometry_at c.args.v c.args.n c.args.points.now) c.args.n c.args.k c.args.work.now = ripe c.requires.ready.0 c.requires.ready.1 c.requires.s_in_bounds in
-    let gathered_at : Gathered (geometry_at c.args.v c.args.n c.args.points.now) c.args.n c.args.k c.args.work.now c.args.few c.args.c c.args.at c.gather_core-m.result c.gather_core-m.new.work =         gathered ripe_at c.requires.c_lt_k.0 c.requires.c_lt_k.1 c.word-from.ensures c.cell_end-to.ensures c.gather_core-m.ensures.value c.gather_core-m.ensures.work_after in
+    let gathered_at : Gathered (geometry_at c.args.v c.args.n c.args.points.now) c.args.n c.args.k c.args.work.now c.args.few c.args.c c.args.at c.gather_core-m.result c.gather_core-m.new.work = gathered ripe_at c.requires.c_lt_k.0 c.requires.c_lt_k.1 c.word-from.ensures c.cell_end-to.ensures c.gather_core-m.ensures.value c.gather_core-m.ensures.work_after in
     let g = gathered_at in
     omega (arith, word_low g c.if-m-few.false)
 
 pub offset_bounds-work-slot-2 : goal.offset_bounds-work-slot-2
 offset_bounds-work-slot-2 c =
     let ripe_at : Ripe (geometry_at c.args.v c.args.n c.args.points.now) c.args.n c.args.k c.args.work.now = ripe c.requires.ready.0 c.requires.ready.1 c.requires.s_in_bounds in
-    let gathered_at : Gathered (geometry_at c.args.v c.args.n c.args.points.now) c.args.n c.args.k c.args.work.now c.args.few c.args.c c.args.at c.gather_core-m.result c.gather_core-m.new.work =         gathered ripe_at c.requires.c_lt_k.0 c.requires.c_lt_k.1 c.word-from.ensures c.cell_end-to.ensures c.gather_core-m.ensures.value c.gather_core-m.ensures.work_after in
+    let gathered_at : Gathered (geometry_at c.args.v c.args.n c.args.points.now) c.args.n c.args.k c.args.work.now c.args.few c.args.c c.args.at c.gather_core-m.result c.gather_core-m.new.work = gathered ripe_at c.requires.c_lt_k.0 c.requires.c_lt_k.1 c.word-from.ensures c.cell_end-to.ensures c.gather_core-m.ensures.value c.gather_core-m.ensures.work_after in
     let g = gathered_at in
     omega (arith, cells_few g.ripe, g.ripe.few, g.inside)
 
 pub bounds-work-slot-2 : goal.bounds-work-slot-2
 bounds-work-slot-2 c =
     let ripe_at : Ripe (geometry_at c.args.v c.args.n c.args.points.now) c.args.n c.args.k c.args.work.now = ripe c.requires.ready.0 c.requires.ready.1 c.requires.s_in_bounds in
-    let gathered_at : Gathered (geometry_at c.args.v c.args.n c.args.points.now) c.args.n c.args.k c.args.work.now c.args.few c.args.c c.args.at c.gather_core-m.result c.gather_core-m.new.work =         gathered ripe_at c.requires.c_lt_k.0 c.requires.c_lt_k.1 c.word-from.ensures c.cell_end-to.ensures c.gather_core-m.ensures.value c.gather_core-m.ensures.work_after in
+    let gathered_at : Gathered (geometry_at c.args.v c.args.n c.args.points.now) c.args.n c.args.k c.args.work.now c.args.few c.args.c c.args.at c.gather_core-m.result c.gather_core-m.new.work = gathered ripe_at c.requires.c_lt_k.0 c.requires.c_lt_k.1 c.word-from.ensures c.cell_end-to.ensures c.gather_core-m.ensures.value c.gather_core-m.ensures.work_after in
     let g = gathered_at in
     omega (arith, cells_few g.ripe, g.ripe.room, g.inside, cleared_length g c.if-m-few.false c.build_structure-next.ensures.result_value c.build_structure-next.ensures.work_after c.clear_words-2.ensures)
 
 pub shape_of-work : goal.shape_of-work
 shape_of-work c =
     let ripe_at : Ripe (geometry_at c.args.v c.args.n c.args.points.now) c.args.n c.args.k c.args.work.now = ripe c.requires.ready.0 c.requires.ready.1 c.requires.s_in_bounds in
-    let gathered_at : Gathered (geometry_at c.args.v c.args.n c.args.points.now) c.args.n c.args.k c.args.work.now c.args.few c.args.c c.args.at c.gather_core-m.result c.gather_core-m.new.work =         gathered ripe_at c.requires.c_lt_k.0 c.requires.c_lt_k.1 c.word-from.ensures c.cell_end-to.ensures c.gather_core-m.ensures.value c.gather_core-m.ensures.work_after in
+    let gathered_at : Gathered (geometry_at c.args.v c.args.n c.args.points.now) c.args.n c.args.k c.args.work.now c.args.few c.args.c c.args.at c.gather_core-m.result c.gather_core-m.new.work = gathered ripe_at c.requires.c_lt_k.0 c.requires.c_lt_k.1 c.word-from.ensures c.cell_end-to.ensures c.gather_core-m.ensures.value c.gather_core-m.ensures.work_after in
     let g = gathered_at in
     simp length-set (cleared_length g c.if-m-few.false c.build_structure-next.ensures.result_value c.build_structure-next.ensures.work_after c.clear_words-2.ensures)
 
 pub returns : goal.returns
 returns c =
     let ripe_at : Ripe (geometry_at c.args.v c.args.n c.args.points.now) c.args.n c.args.k c.args.work.now = ripe c.requires.ready.0 c.requires.ready.1 c.requires.s_in_bounds in
-    let gathered_at : Gathered (geometry_at c.args.v c.args.n c.args.points.now) c.args.n c.args.k c.args.work.now c.args.few c.args.c c.args.at c.gather_core-m.result c.gather_core-m.new.work =         gathered ripe_at c.requires.c_lt_k.0 c.requires.c_lt_k.1 c.word-from.ensures c.cell_end-to.ensures c.gather_core-m.ensures.value c.gather_core-m.ensures.work_after in
+    let gathered_at : Gathered (geometry_at c.args.v c.args.n c.args.points.now) c.args.n c.args.k c.args.work.now c.args.few c.args.c c.args.at c.gather_core-m.result c.gather_core-m.new.work = gathered ripe_at c.requires.c_lt_k.0 c.requires.c_lt_k.1 c.word-from.ensures c.cell_end-to.ensures c.gather_core-m.ensures.value c.gather_core-m.ensures.work_after in
     let g = gathered_at in
     record { value = some_next g c.if-m-few.false c.build_structure-next.ensures.result_value c.build_structure-next.ensures.work_after; work_after = some_work g c.if-m-few.false c.build_structure-next.ensures.result_value c.build_structure-next.ensures.work_after c.clear_words-2.ensures }

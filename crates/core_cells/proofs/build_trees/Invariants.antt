@@ -1,9 +1,7 @@
 -- `build_trees` meets its contract: the loop's invariant is `Growing`.
 use Prim.Native.Nat.{◌-◌}
-use native.Mathlib.Omega.{arith}
 use Rattle.counting_tree.specs.Ready.{geometry_at}
-use Rattle.core_cells.proofs.Building.{ripe}
-use Rattle.core_cells.proofs.Growing.{Growing, growing_start, growing_length, growing_cored, growing_blank, growing_step, growing_end}
+use Rattle.core_cells.proofs.Growing.{Growing}
 use Rattle.core_cells.proofs.build_trees.Given as goal
 
 abbrev pub invariant-loop-c : goal.invariant-loop-c

@@ -1,6 +1,5 @@
 -- `frame_reaches` meets its contract: a frame out of reach does not reach.
 use mathlib.Core.Path.{sym, ◌∙◌}
-use borrow.Author.Rules.{rules}
 use Rattle.core_cells.proofs.Reaching.{no_reach}
 use Rattle.core_cells.proofs.frame_reaches.Goals as goal
 

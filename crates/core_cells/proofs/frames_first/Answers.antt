@@ -1,5 +1,4 @@
 -- `frames_first` meets its contract: s is 0, or the frames are counted.
-use borrow.Author.Rules.{rules}
 use borrow.Author.Tests.{lt-ltb}
 use native.Mathlib.Omega.{arith}
 use Rattle.core_cells.specs.Settling.{frames_first}

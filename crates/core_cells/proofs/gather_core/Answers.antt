@@ -1,47 +1,46 @@
 use mathlib.Core.Path.{sym, ◌∙◌}
-use Prim.Native.Nat.{◌-◌}
 use native.Mathlib.Omega.{arith}
-use Rattle.core_cells.proofs.Gathering.{Gathering, gathering_start, gathering_low, gathering_length, frame_below, gathering_hit, gathering_miss, gathering_end}
+use Rattle.core_cells.proofs.Gathering.{gathering_start, gathering_low, gathering_length, frame_below, gathering_hit, gathering_miss, gathering_end}
 use Rattle.core_cells.proofs.gather_core.Goals as goal
 
 pub loop-p-init : goal.loop-p-init
 loop-p-init c = gathering_start c.requires
 
 pub overflow_add-next : goal.overflow_add-next
-overflow_add-next c =         omega (arith, c.loop-p.invariant.can.places, c.loop-p.invariant.can.few)
+overflow_add-next c = omega (arith, c.loop-p.invariant.can.places, c.loop-p.invariant.can.few)
 
 pub overflow_mul-n : goal.overflow_mul-n
-overflow_mul-n c =         omega (arith, c.loop-p.invariant.can.few)
+overflow_mul-n c = omega (arith, c.loop-p.invariant.can.few)
 
 pub overflow_add-n : goal.overflow_add-n
-overflow_add-n c =         omega (arith, c.loop-p.invariant.can.few, c.loop-p.invariant.can.places)
+overflow_add-n c = omega (arith, c.loop-p.invariant.can.few, c.loop-p.invariant.can.places)
 
 pub word-i-requires : goal.word-i-requires
-word-i-requires c =         omega (arith, c.loop-p.invariant.can.above, c.loop-p.invariant.can.places, c.loop-p.invariant.can.room, gathering_length c.loop-p.invariant)
+word-i-requires c = omega (arith, c.loop-p.invariant.can.above, c.loop-p.invariant.can.places, c.loop-p.invariant.can.room, gathering_length c.loop-p.invariant)
 
 pub is_core-requires : goal.is_core-requires
-is_core-requires c =         (frame_below c.loop-p.invariant c.loop-p-test.true _ c.word-i.ensures, omega (arith, c.loop-p.invariant.can.above, c.loop-p.invariant.can.room, gathering_length c.loop-p.invariant))
+is_core-requires c = (frame_below c.loop-p.invariant c.loop-p-test.true _ c.word-i.ensures, omega (arith, c.loop-p.invariant.can.above, c.loop-p.invariant.can.room, gathering_length c.loop-p.invariant))
 
 pub overflow_cast-work : goal.overflow_cast-work
-overflow_cast-work c =         omega (arith, frame_below c.loop-p.invariant c.loop-p-test.true _ c.word-i.ensures, c.loop-p.invariant.can.few)
+overflow_cast-work c = omega (arith, frame_below c.loop-p.invariant c.loop-p-test.true _ c.word-i.ensures, c.loop-p.invariant.can.few)
 
 pub overflow_add-work : goal.overflow_add-work
-overflow_add-work c =         omega (arith, gathering_low c.loop-p.invariant, gathering_length c.loop-p.invariant, c.loop-p.invariant.can.room, c.loop-p.invariant.can.places)
+overflow_add-work c = omega (arith, gathering_low c.loop-p.invariant, gathering_length c.loop-p.invariant, c.loop-p.invariant.can.room, c.loop-p.invariant.can.places)
 
 pub offset_bounds-work-at : goal.offset_bounds-work-at
-offset_bounds-work-at c =         omega (arith, gathering_low c.loop-p.invariant, gathering_length c.loop-p.invariant, c.loop-p.invariant.can.room, c.loop-p.invariant.can.places)
+offset_bounds-work-at c = omega (arith, gathering_low c.loop-p.invariant, gathering_length c.loop-p.invariant, c.loop-p.invariant.can.room, c.loop-p.invariant.can.places)
 
 pub bounds-work-at : goal.bounds-work-at
-bounds-work-at c =         omega (arith, gathering_low c.loop-p.invariant, gathering_length c.loop-p.invariant, c.loop-p.invariant.can.room, c.loop-p.invariant.can.places)
+bounds-work-at c = omega (arith, gathering_low c.loop-p.invariant, gathering_length c.loop-p.invariant, c.loop-p.invariant.can.room, c.loop-p.invariant.can.places)
 
 pub overflow_add-m : goal.overflow_add-m
-overflow_add-m c =         omega (arith, gathering_low c.loop-p.invariant, c.loop-p.invariant.can.places, c.loop-p.invariant.can.few)
+overflow_add-m c = omega (arith, gathering_low c.loop-p.invariant, c.loop-p.invariant.can.places, c.loop-p.invariant.can.few)
 
 pub loop-p-preserved-then-is_core : goal.loop-p-preserved-then-is_core
-loop-p-preserved-then-is_core c =         gathering_hit c.loop-p.invariant c.loop-p-test.true _ c.word-i.ensures (sym c.if-is_core.true ∙ c.is_core.ensures)
+loop-p-preserved-then-is_core c = gathering_hit c.loop-p.invariant c.loop-p-test.true _ c.word-i.ensures (sym c.if-is_core.true ∙ c.is_core.ensures)
 
 pub loop-p-preserved : goal.loop-p-preserved
-loop-p-preserved c =         gathering_miss c.loop-p.invariant c.loop-p-test.true _ c.word-i.ensures (sym c.if-is_core.false ∙ c.is_core.ensures)
+loop-p-preserved c = gathering_miss c.loop-p.invariant c.loop-p-test.true _ c.word-i.ensures (sym c.if-is_core.false ∙ c.is_core.ensures)
 
 pub shape_of-work : goal.shape_of-work
 shape_of-work c = gathering_length c.loop-p.invariant

@@ -1,8 +1,6 @@
 -- `gather_core` meets its contract: the loop's invariant is `Gathering`.
-use mathlib.Core.Path.{sym, ◌∙◌}
 use Prim.Native.Nat.{◌-◌}
-use native.Mathlib.Omega.{arith}
-use Rattle.core_cells.proofs.Gathering.{Gathering, gathering_start, gathering_low, gathering_length, frame_below, gathering_hit, gathering_miss, gathering_end}
+use Rattle.core_cells.proofs.Gathering.{Gathering}
 use Rattle.core_cells.proofs.gather_core.Given as goal
 
 abbrev pub invariant-loop-p : goal.invariant-loop-p

@@ -1,6 +1,5 @@
 -- `is_core_cell` meets its contract.
 use mathlib.Core.Path.{ap, ◌∙◌}
-use borrow.Author.Rules.{rules}
 use Rattle.lists.specs.Lists.{nonzero}
 use Rattle.lists.specs.ListLaws.{nonzero_eqb}
 use Rattle.core_cells.proofs.is_core_cell.Goals as goal

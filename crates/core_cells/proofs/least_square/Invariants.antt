@@ -1,11 +1,9 @@
 -- What the places from p on give is what all give.
-use mathlib.Core.Path.{sym, ◌∙◌}
 use Prim.Native.Nat.{◌-◌, ◌<◌}
-use native.Mathlib.Omega.{arith}
 use Rattle.counting_tree.specs.Frames.{frames_in}
 use Rattle.counting_tree.specs.Geometry.{N}
-use Rattle.counting_tree.specs.Ready.{Ready, square_fits}
-use Rattle.core_cells.proofs.Looking.{look_below, Looking, looking_start, looking_miss, looking_stop, looking_less, looking_more, looking_end}
+use Rattle.counting_tree.specs.Ready.{Ready}
+use Rattle.core_cells.proofs.Looking.{Looking}
 use Rattle.core_cells.proofs.least_square.Given as goal
 
 abbrev pub invariant-loop-p : goal.invariant-loop-p

@@ -1,6 +1,5 @@
 -- The far reach, each product within 64 bits.
 use native.Mathlib.Omega.{arith}
-use borrow.Author.Rules.{rules}
 use Rattle.core_cells.proofs.Looking.{shifted, reachable, reach_is}
 use Rattle.core_cells.proofs.out_of_reach.Goals as goal
 

@@ -1,5 +1,4 @@
 -- `reaches` meets its contract: what is settled first, or what is asked then.
-use borrow.Author.Rules.{rules}
 use Rattle.core_cells.proofs.Reaching.{settled_is}
 use Rattle.core_cells.proofs.reaches.Goals as goal
 

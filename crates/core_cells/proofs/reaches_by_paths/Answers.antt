@@ -1,5 +1,4 @@
 -- `reaches_by_paths` meets its contract: what the root box says, or else the paths.
-use borrow.Author.Rules.{rules}
 use native.Mathlib.Omega.{arith}
 use Rattle.core_cells.proofs.Reaching.{settled_is, slot, cells_fit, treeless, test_tells, test_open, can_look, by_paths}
 use Rattle.core_cells.proofs.Rooted.{first_low}

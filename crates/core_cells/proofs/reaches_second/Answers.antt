@@ -1,5 +1,4 @@
 -- `reaches_second` meets its contract: what the tree says, or what is settled, or what the paths say.
-use borrow.Author.Rules.{rules}
 use native.Mathlib.Omega.{arith}
 use Rattle.core_cells.proofs.Reaching.{settled_is, slot, told_count}
 use Rattle.core_cells.proofs.reaches_second.Goals as goal

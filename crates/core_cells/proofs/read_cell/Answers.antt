@@ -1,5 +1,4 @@
 -- The frames at the places of a cell are its frames.
-use borrow.Author.Rules.{rules}
 use native.Mathlib.Omega.{arith}
 use Rattle.core_cells.proofs.Placing.{cell_order, cell_look, cell_counts}
 use Rattle.core_cells.proofs.read_cell.Goals as goal

@@ -1,10 +1,5 @@
-use Prim.Native.Nat.{◌-◌}
 use native.Mathlib.Omega.{arith}
-use Rattle.counting_tree.specs.Frames.{frames_in}
-use Rattle.counting_tree.specs.Geometry.{frame}
-use Rattle.counting_tree.specs.Domain.{Counts}
-use Rattle.counting_tree.specs.Ready.{Ready}
-use Rattle.core_cells.proofs.Looking.{look_below, Reading, reading_start, reading_step, reading_end}
+use Rattle.core_cells.proofs.Looking.{look_below, reading_start, reading_step, reading_end}
 use Rattle.core_cells.proofs.read_frames.Goals as goal
 
 pub loop-p-init : goal.loop-p-init
@@ -23,7 +18,7 @@ pub read_frame-requires : goal.read_frame-requires
 read_frame-requires c = (c.loop-p.invariant.0, look_below c.loop-p.invariant.1.can c.loop-p-test.true c.word.ensures)
 
 pub loop-p-preserved : goal.loop-p-preserved
-loop-p-preserved c =         (c.loop-p.invariant.0, reading_step c.loop-p.invariant.1 c.loop-p-test.true c.word.ensures c.read_frame.ensures)
+loop-p-preserved c = (c.loop-p.invariant.0, reading_step c.loop-p.invariant.1 c.loop-p-test.true c.word.ensures c.read_frame.ensures)
 
 pub returns : goal.returns
 returns c = reading_end c.loop-p.invariant.1 c.loop-p-test.false

@@ -1,11 +1,10 @@
 -- Each frame at the places passed has been read.
 use Prim.Native.Nat.{◌-◌}
-use native.Mathlib.Omega.{arith}
 use Rattle.counting_tree.specs.Frames.{frames_in}
 use Rattle.counting_tree.specs.Geometry.{frame}
 use Rattle.counting_tree.specs.Domain.{Counts}
 use Rattle.counting_tree.specs.Ready.{Ready}
-use Rattle.core_cells.proofs.Looking.{look_below, Reading, reading_start, reading_step, reading_end}
+use Rattle.core_cells.proofs.Looking.{Reading}
 use Rattle.core_cells.proofs.read_frames.Given as goal
 
 abbrev pub invariant-loop-p : goal.invariant-loop-p

@@ -1,6 +1,5 @@
 -- The box of the cell's first frame.
 use native.Mathlib.Omega.{arith}
-use borrow.Author.Rules.{rules}
 use Rattle.counting_tree.specs.Indexes.{ready_side}
 use Rattle.core_cells.proofs.Counting.{word_inside}
 use Rattle.core_cells.proofs.Rooted.{first_inside, root_is}

@@ -1,5 +1,4 @@
 -- `root_unless` meets its contract: zeros, or the root box.
-use borrow.Author.Rules.{rules}
 use lib.Ieee.{of_bits, of_int}
 use Rattle.core_cells.specs.RootBox.{root_unless}
 use Rattle.core_cells.proofs.root_unless.Goals as goal

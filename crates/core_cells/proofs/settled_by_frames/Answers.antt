@@ -1,5 +1,4 @@
 -- `settled_by_frames` meets its contract: a hit, all out of reach, or neither.
-use borrow.Author.Rules.{rules}
 use mathlib.Core.Path.{refl, sym, ◌∙◌}
 use mathlib.Core.Bool.{true, false}
 use Prim.Native.Nat.{◌*◌}

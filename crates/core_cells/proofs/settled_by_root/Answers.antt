@@ -1,5 +1,4 @@
 -- `settled_by_root` meets its contract: no core frame, or what the root box settles.
-use borrow.Author.Rules.{rules}
 use native.Mathlib.Omega.{arith}
 use Rattle.core_cells.proofs.Reaching.{asked, slot, treeless, no_core, root_value, root_tells}
 use Rattle.core_cells.proofs.Rooted.{first_low}

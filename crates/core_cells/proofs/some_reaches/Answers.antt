@@ -1,9 +1,6 @@
 use mathlib.Core.Path.{sym, ◌∙◌}
-use Prim.Native.Nat.{◌-◌}
 use native.Mathlib.Omega.{arith}
-use Rattle.counting_tree.specs.Paths as Paths
-use Rattle.counting_tree.specs.Ready.{geometry_at}
-use Rattle.core_cells.proofs.Looking.{look_below, look_in, Seeking, seeking_start, seeking_miss, seeking_found, seeking_pass, seeking_end}
+use Rattle.core_cells.proofs.Looking.{look_below, look_in, seeking_start, seeking_miss, seeking_found, seeking_pass, seeking_end}
 use Rattle.core_cells.proofs.some_reaches.Goals as goal
 
 pub loop-p-init : goal.loop-p-init

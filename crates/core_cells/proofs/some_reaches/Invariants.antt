@@ -1,10 +1,8 @@
 -- What the places from p on tell is what all tell.
-use mathlib.Core.Path.{sym, ◌∙◌}
 use Prim.Native.Nat.{◌-◌}
-use native.Mathlib.Omega.{arith}
 use Rattle.counting_tree.specs.Paths as Paths
 use Rattle.counting_tree.specs.Ready.{geometry_at}
-use Rattle.core_cells.proofs.Looking.{look_below, look_in, Seeking, seeking_start, seeking_miss, seeking_found, seeking_pass, seeking_end}
+use Rattle.core_cells.proofs.Looking.{Seeking}
 use Rattle.core_cells.proofs.some_reaches.Given as goal
 
 abbrev pub invariant-loop-p : goal.invariant-loop-p

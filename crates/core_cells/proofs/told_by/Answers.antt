@@ -1,5 +1,4 @@
 -- `told_by` meets its contract, in either case.
-use borrow.Author.Rules.{rules}
 use Rattle.core_cells.proofs.Reaching.{not_first}
 use Rattle.core_cells.proofs.told_by.Goals as goal
 

@@ -4,7 +4,6 @@ use Prim.Native.Nat.{◌-◌, ◌*◌}
 use native.Mathlib.Omega.{arith}
 use Rattle.blocks.specs.Blocks.{bucket_at}
 use Rattle.cells_grid.proofs.Neighbours.{along_low, stretch_fits, rest_fits, row_sum}
-use borrow.Author.Rules.{rules}
 use Rattle.cells_grid.proofs.crowding.count_row.Goals as goal
 
 pub bucket-requires : goal.bucket-requires

@@ -1,10 +1,6 @@
-use Prim.Native.Nat.{◌+◌, ◌-◌, ◌*◌}
 use mathlib.Core.Path.{sym, ◌∙◌}
 use native.Mathlib.Omega.{arith}
-use Rattle.lists.specs.Lists.{how_many}
-use Rattle.lists.specs.Words.{part}
-use Rattle.cells_grid.specs.Crowding.{neighbour_in}
-use Rattle.cells_grid.proofs.Neighbours.{Tally, tally_start, tally_end, tally_below, tally_stop, tally_hit, tally_miss}
+use Rattle.cells_grid.proofs.Neighbours.{tally_start, tally_end, tally_below, tally_stop, tally_hit, tally_miss}
 use Rattle.cells_grid.proofs.crowding.count_stretch.Goals as goal
 
 pub loop-p-init : goal.loop-p-init

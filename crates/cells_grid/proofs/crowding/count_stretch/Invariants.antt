@@ -1,11 +1,9 @@
 -- The invariant is the count of the neighbours before place p, and of those left in the stretch.
 use Prim.Native.Nat.{◌+◌, ◌-◌, ◌*◌}
-use mathlib.Core.Path.{sym, ◌∙◌}
-use native.Mathlib.Omega.{arith}
 use Rattle.lists.specs.Lists.{how_many}
 use Rattle.lists.specs.Words.{part}
 use Rattle.cells_grid.specs.Crowding.{neighbour_in}
-use Rattle.cells_grid.proofs.Neighbours.{Tally, tally_start, tally_end, tally_below, tally_stop, tally_hit, tally_miss}
+use Rattle.cells_grid.proofs.Neighbours.{Tally}
 use Rattle.cells_grid.proofs.crowding.count_stretch.Given as goal
 
 abbrev pub invariant-loop-p : goal.invariant-loop-p

@@ -1,8 +1,7 @@
 use mathlib.Core.Path.{refl, sym, ap, ap₂, ◌∙◌}
-use Prim.Native.Nat.{ℕ, ◌+◌, ◌-◌, ◌/◌, ◌%◌, ◌^◌, min}
+use Prim.Native.Nat.{ℕ, ◌+◌, ◌/◌, ◌%◌, min}
 use lib.ListN.{get_or}
 use native.Mathlib.Omega.{arith}
-use Rattle.lists.proofs.LoopLaws.{Sum}
 use Rattle.counting_tree.specs.Ready.{geometry_at, at_least}
 use Rattle.blocks.specs.AroundLaws.{few_rows, rows_of, rows_hash, rows_along}
 use Rattle.cells_grid.specs.Crowding.{neighbours_in}

@@ -1,13 +1,8 @@
 -- Rows are counted, from the frame's own on: the invariant is that count and the sum over the rows that are left.
-use mathlib.Core.Path.{refl, sym, ap, ap₂, ◌∙◌}
-use Prim.Native.Nat.{ℕ, ◌+◌, ◌-◌, ◌/◌, ◌%◌, ◌^◌, min}
-use lib.ListN.{get_or}
-use native.Mathlib.Omega.{arith}
+use Prim.Native.Nat.{◌+◌, ◌-◌, ◌%◌, ◌^◌}
 use Rattle.lists.proofs.LoopLaws.{Sum}
-use Rattle.counting_tree.specs.Ready.{geometry_at, at_least}
-use Rattle.blocks.specs.AroundLaws.{few_rows, rows_of, rows_hash, rows_along}
+use Rattle.counting_tree.specs.Ready.{geometry_at}
 use Rattle.cells_grid.specs.Crowding.{neighbours_in}
-use Rattle.cells_grid.proofs.Neighbours.{too_few, number_fits, first_fits, first_is, rows_start, rows_stop, rows_more, rows_end}
 use Rattle.cells_grid.proofs.crowding.crowded.Given as goal
 
 abbrev pub invariant-loop-r : goal.invariant-loop-r

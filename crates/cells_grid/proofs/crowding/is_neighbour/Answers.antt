@@ -1,7 +1,6 @@
 -- The tests in turn: the tolerance, the row, the list of frame i's cell.
 use native.Mathlib.Omega.{arith}
 use Rattle.cells_grid.proofs.Neighbours.{number_fits, first_fits, first_is, first_below, own_below, row_fits, tests_row, tests_within, tests_list}
-use borrow.Author.Rules.{rules}
 use mathlib.Core.Bool.{not}
 use mathlib.Core.Path.{ap}
 use Rattle.cells_grid.proofs.crowding.is_neighbour.Goals as goal

@@ -1,9 +1,7 @@
 use mathlib.Core.Path.{refl}
 use mathlib.Core.Path.{◌∙◌}
-use Prim.Native.Nat.{◌-◌, ◌*◌}
 use native.Mathlib.Omega.{arith}
-use Rattle.lists.proofs.LoopLaws.{Fill, fill_start, fill_length, fill_step}
-use Rattle.cells_grid.specs.Crowding.{frame_key}
+use Rattle.lists.proofs.LoopLaws.{fill_start, fill_length, fill_step}
 use Rattle.cells_grid.proofs.Core.{frame_key_lem, frames_can, frames_sorted}
 use Rattle.cells_grid.proofs.crowding.sort_frames.Goals as goal
 

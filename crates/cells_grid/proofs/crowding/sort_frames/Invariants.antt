@@ -1,11 +1,7 @@
 -- The keys are written, the frames sorted by them, and the keys cleared.
-use mathlib.Core.Path.{refl}
-use mathlib.Core.Path.{◌∙◌}
 use Prim.Native.Nat.{◌-◌, ◌*◌}
-use native.Mathlib.Omega.{arith}
-use Rattle.lists.proofs.LoopLaws.{Fill, fill_start, fill_length, fill_step}
+use Rattle.lists.proofs.LoopLaws.{Fill}
 use Rattle.cells_grid.specs.Crowding.{frame_key}
-use Rattle.cells_grid.proofs.Core.{frame_key_lem, frames_can, frames_sorted}
 use Rattle.cells_grid.proofs.crowding.sort_frames.Given as goal
 
 abbrev pub invariant-loop-j : goal.invariant-loop-j

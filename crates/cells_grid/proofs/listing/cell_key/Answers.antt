@@ -1,7 +1,6 @@
 -- A cell with the word 0 is no core cell, and any other is.
 use native.Mathlib.Omega.{arith}
 use Rattle.cells_grid.proofs.Sorting.{cells_few, key_of_none, first_low, key_of_core}
-use borrow.Author.Rules.{rules}
 use Rattle.cells_grid.proofs.listing.cell_key.Goals as goal
 
 pub overflow_mul-size : goal.overflow_mul-size

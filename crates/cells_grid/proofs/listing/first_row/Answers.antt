@@ -1,7 +1,6 @@
 -- The width and the reach are those of the setting.
 use Rattle.blocks.specs.AroundLaws.{rows_of}
 use Rattle.cells_grid.specs.Listing.{reach_of}
-use borrow.Author.Rules.{rules}
 use Rattle.cells_grid.proofs.listing.first_row.Goals as goal
 
 pub returns : goal.returns

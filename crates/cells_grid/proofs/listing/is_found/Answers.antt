@@ -7,7 +7,6 @@ use Rattle.blocks.specs.AroundLaws.{Rows, rows_multiple}
 use Rattle.cells_grid.specs.Listing.{reach_of}
 use Rattle.cells_grid.proofs.ListingLaws.{few}
 use Rattle.cells_grid.proofs.Searching.{found_room, found_below, found_before, found_near, found_far}
-use borrow.Author.Rules.{rules}
 use Rattle.cells_grid.proofs.listing.is_found.Goals as goal
 
 pub returns-then-d-after : goal.returns-then-d-after

@@ -1,10 +1,8 @@
-use Prim.Native.Nat.{◌+◌}
 use native.Mathlib.Omega.{arith}
 use Rattle.cells_grid.specs.Listing.{reach_of}
 use Rattle.cells_grid.proofs.Sorting.{cells_few}
 use Rattle.blocks.specs.AroundLaws.{Rows, rows_low}
-use Rattle.cells_grid.proofs.Searching.{Row, InRow, row_start, row_length, row_arranged, row_sorted, row_runs, row_room, row_next, row_end}
-use borrow.Author.Rules.{rules}
+use Rattle.cells_grid.proofs.Searching.{Row, row_start, row_length, row_arranged, row_sorted, row_runs, row_room, row_next, row_end}
 use Rattle.cells_grid.proofs.listing.list_row.Goals as goal
 
 pub overflow_mul-size : goal.overflow_mul-size
@@ -21,7 +19,7 @@ stretch_at-s-requires c = (c.bucket.ensures.upper_bound, omega (arith, c.require
 pub loop-to-init : goal.loop-to-init
 loop-to-init c =
     let the_rows : Rows (reach_of c.args.v) c.args.v c.args.n c.args.points.now c.args.i c.args.first = record { ready = c.requires.ready.0; below = c.requires.ready.1; begin = c.requires.ready.2; small = c.requires.ready.3 } in
-    let the_row : Row c.args.v c.args.n c.args.points.now c.args.k c.args.i c.args.after c.args.r c.args.along c.args.h c.args.marks c.args.mark c.args.m c.bucket.result c.args.first c.args.work.now c.stretch_at-s.result =     record {
+    let the_row : Row c.args.v c.args.n c.args.points.now c.args.k c.args.i c.args.after c.args.r c.args.along c.args.h c.args.marks c.args.mark c.args.m c.bucket.result c.args.first c.args.work.now c.stretch_at-s.result = record {
       rows = the_rows;
       arranged = c.requires.arranged.0;
       sorted = c.requires.arranged.1;
@@ -41,7 +39,7 @@ loop-to-init c =
 pub list_stretch-more-requires : goal.list_stretch-more-requires
 list_stretch-more-requires c =
     let the_rows : Rows (reach_of c.args.v) c.args.v c.args.n c.args.points.now c.args.i c.args.first = record { ready = c.requires.ready.0; below = c.requires.ready.1; begin = c.requires.ready.2; small = c.requires.ready.3 } in
-    let the_row : Row c.args.v c.args.n c.args.points.now c.args.k c.args.i c.args.after c.args.r c.args.along c.args.h c.args.marks c.args.mark c.args.m c.bucket.result c.args.first c.args.work.now c.stretch_at-s.result =     record {
+    let the_row : Row c.args.v c.args.n c.args.points.now c.args.k c.args.i c.args.after c.args.r c.args.along c.args.h c.args.marks c.args.mark c.args.m c.bucket.result c.args.first c.args.work.now c.stretch_at-s.result = record {
       rows = the_rows;
       arranged = c.requires.arranged.0;
       sorted = c.requires.arranged.1;
@@ -65,7 +63,7 @@ loop-to-smaller c = omega (arith, c.loop-to-test.true)
 pub loop-to-preserved : goal.loop-to-preserved
 loop-to-preserved c =
     let the_rows : Rows (reach_of c.args.v) c.args.v c.args.n c.args.points.now c.args.i c.args.first = record { ready = c.requires.ready.0; below = c.requires.ready.1; begin = c.requires.ready.2; small = c.requires.ready.3 } in
-    let the_row : Row c.args.v c.args.n c.args.points.now c.args.k c.args.i c.args.after c.args.r c.args.along c.args.h c.args.marks c.args.mark c.args.m c.bucket.result c.args.first c.args.work.now c.stretch_at-s.result =     record {
+    let the_row : Row c.args.v c.args.n c.args.points.now c.args.k c.args.i c.args.after c.args.r c.args.along c.args.h c.args.marks c.args.mark c.args.m c.bucket.result c.args.first c.args.work.now c.stretch_at-s.result = record {
       rows = the_rows;
       arranged = c.requires.arranged.0;
       sorted = c.requires.arranged.1;
@@ -85,7 +83,7 @@ loop-to-preserved c =
 pub shape_of-work : goal.shape_of-work
 shape_of-work c =
     let the_rows : Rows (reach_of c.args.v) c.args.v c.args.n c.args.points.now c.args.i c.args.first = record { ready = c.requires.ready.0; below = c.requires.ready.1; begin = c.requires.ready.2; small = c.requires.ready.3 } in
-    let the_row : Row c.args.v c.args.n c.args.points.now c.args.k c.args.i c.args.after c.args.r c.args.along c.args.h c.args.marks c.args.mark c.args.m c.bucket.result c.args.first c.args.work.now c.stretch_at-s.result =     record {
+    let the_row : Row c.args.v c.args.n c.args.points.now c.args.k c.args.i c.args.after c.args.r c.args.along c.args.h c.args.marks c.args.mark c.args.m c.bucket.result c.args.first c.args.work.now c.stretch_at-s.result = record {
       rows = the_rows;
       arranged = c.requires.arranged.0;
       sorted = c.requires.arranged.1;
@@ -105,7 +103,7 @@ shape_of-work c =
 pub returns : goal.returns
 returns c =
     let the_rows : Rows (reach_of c.args.v) c.args.v c.args.n c.args.points.now c.args.i c.args.first = record { ready = c.requires.ready.0; below = c.requires.ready.1; begin = c.requires.ready.2; small = c.requires.ready.3 } in
-    let the_row : Row c.args.v c.args.n c.args.points.now c.args.k c.args.i c.args.after c.args.r c.args.along c.args.h c.args.marks c.args.mark c.args.m c.bucket.result c.args.first c.args.work.now c.stretch_at-s.result =     record {
+    let the_row : Row c.args.v c.args.n c.args.points.now c.args.k c.args.i c.args.after c.args.r c.args.along c.args.h c.args.marks c.args.mark c.args.m c.bucket.result c.args.first c.args.work.now c.stretch_at-s.result = record {
       rows = the_rows;
       arranged = c.requires.arranged.0;
       sorted = c.requires.arranged.1;

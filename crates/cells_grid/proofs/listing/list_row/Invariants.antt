@@ -1,11 +1,6 @@
 -- The invariant: of the row the stretches before this one are listed.
 use Prim.Native.Nat.{◌+◌}
-use native.Mathlib.Omega.{arith}
-use Rattle.cells_grid.specs.Listing.{reach_of}
-use Rattle.cells_grid.proofs.Sorting.{cells_few}
-use Rattle.blocks.specs.AroundLaws.{Rows, rows_low}
-use Rattle.cells_grid.proofs.Searching.{Row, InRow, row_start, row_length, row_arranged, row_sorted, row_runs, row_room, row_next, row_end}
-use borrow.Author.Rules.{rules}
+use Rattle.cells_grid.proofs.Searching.{InRow}
 use Rattle.cells_grid.proofs.listing.list_row.Given as goal
 
 abbrev pub invariant-loop-to : goal.invariant-loop-to

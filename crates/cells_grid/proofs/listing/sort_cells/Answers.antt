@@ -1,8 +1,6 @@
 use mathlib.Core.Path.{refl, ◌∙◌}
-use Prim.Native.Nat.{◌-◌, ◌*◌}
 use native.Mathlib.Omega.{arith}
-use Rattle.lists.proofs.LoopLaws.{Fill, fill_start, fill_length, fill_step}
-use Rattle.cells_grid.specs.Listing.{cell_key}
+use Rattle.lists.proofs.LoopLaws.{fill_start, fill_length, fill_step}
 use Rattle.cells_grid.proofs.Sorting.{cells_few, keys_arranged, keys_tree, keys_sortable, keys_sorted}
 use Rattle.cells_grid.proofs.listing.sort_cells.Goals as goal
 

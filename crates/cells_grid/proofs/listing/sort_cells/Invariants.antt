@@ -1,10 +1,7 @@
 -- The keys are written, then sorted, then cleared.
-use mathlib.Core.Path.{refl, ◌∙◌}
 use Prim.Native.Nat.{◌-◌, ◌*◌}
-use native.Mathlib.Omega.{arith}
-use Rattle.lists.proofs.LoopLaws.{Fill, fill_start, fill_length, fill_step}
+use Rattle.lists.proofs.LoopLaws.{Fill}
 use Rattle.cells_grid.specs.Listing.{cell_key}
-use Rattle.cells_grid.proofs.Sorting.{cells_few, keys_arranged, keys_tree, keys_sortable, keys_sorted}
 use Rattle.cells_grid.proofs.listing.sort_cells.Given as goal
 
 abbrev pub invariant-loop-c : goal.invariant-loop-c

@@ -2,7 +2,6 @@
 use mathlib.Core.Path.{sym}
 use native.Mathlib.Omega.{arith}
 use Rattle.lists.proofs.SortLaws.{begin_first}
-use borrow.Author.Rules.{rules}
 use Rattle.cells_grid.proofs.listing.sorted_count.Goals as goal
 
 pub returns-then-k-eq0 : goal.returns-then-k-eq0

@@ -2,9 +2,6 @@
 use mathlib.Core.Path.{ap}
 use Prim.Native.Nat.{ℕ, ◌+◌}
 use lib.ListN.{set}
-use borrow.Author.Rules.{rules}
-use Rattle.cells_grid.proofs.pairs.add_to.Reads as reads
-use Rattle.lists.proofs.word.Reads as word-reads
 use Rattle.cells_grid.proofs.pairs.add_to.Goals as goal
 
 pub returns : goal.returns

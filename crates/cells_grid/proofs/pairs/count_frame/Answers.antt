@@ -1,10 +1,10 @@
 use mathlib.Core.Path.{refl, ap, ◌∙◌}
-use Prim.Native.Nat.{ℕ, ◌-◌, ◌/◌}
+use Prim.Native.Nat.{ℕ, ◌/◌}
 use native.Mathlib.Omega.{arith}
 use lib.ListN.{get_or}
 use Rattle.blocks.specs.AroundLaws.{few_rows, rows_of, rows_hash, rows_along}
 use Rattle.cells_grid.proofs.Neighbours.{number_fits, first_fits, first_is}
-use Rattle.cells_grid.proofs.PairLoops.{InFrame, own_is, frame_start, frame_length, frame_laid, frame_room, frame_sum, frame_next, frame_fits, frame_end}
+use Rattle.cells_grid.proofs.PairLoops.{own_is, frame_start, frame_length, frame_laid, frame_room, frame_sum, frame_next, frame_fits, frame_end}
 use Rattle.cells_grid.proofs.pairs.count_frame.Goals as goal
 
 pub word-c-requires : goal.word-c-requires

@@ -1,6 +1,5 @@
-use Prim.Native.Nat.{◌-◌}
 use native.Mathlib.Omega.{arith}
-use Rattle.cells_grid.proofs.PairLoops.{InFrames, frames_start, frames_length, frames_laid, frames_room, frames_next, frames_end}
+use Rattle.cells_grid.proofs.PairLoops.{frames_start, frames_length, frames_laid, frames_room, frames_next, frames_end}
 use Rattle.cells_grid.proofs.pairs.count_pairs.Goals as goal
 
 pub loop-i-init : goal.loop-i-init

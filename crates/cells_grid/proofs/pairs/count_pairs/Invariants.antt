@@ -1,7 +1,6 @@
 -- The invariant: the pairs that the frames before i find are counted.
 use Prim.Native.Nat.{◌-◌}
-use native.Mathlib.Omega.{arith}
-use Rattle.cells_grid.proofs.PairLoops.{InFrames, frames_start, frames_length, frames_laid, frames_room, frames_next, frames_end}
+use Rattle.cells_grid.proofs.PairLoops.{InFrames}
 use Rattle.cells_grid.proofs.pairs.count_pairs.Given as goal
 
 abbrev pub invariant-loop-i : goal.invariant-loop-i

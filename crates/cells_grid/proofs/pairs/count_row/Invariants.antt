@@ -1,10 +1,6 @@
 -- The invariant: of the row the stretches before this one are counted.
-use mathlib.Core.Path.{sym, ap₂, ◌∙◌}
-use Prim.Native.Nat.{◌+◌, ◌-◌, ◌*◌}
-use native.Mathlib.Omega.{arith}
-use Rattle.blocks.specs.Blocks.{bucket_at}
-use Rattle.blocks.specs.AroundLaws.{rows_low, rows_along}
-use Rattle.cells_grid.proofs.PairLoops.{Row, InRow, row_start, row_length, row_laid, row_fits, row_room, row_few, row_next, row_end}
+use Prim.Native.Nat.{◌+◌}
+use Rattle.cells_grid.proofs.PairLoops.{InRow}
 use Rattle.cells_grid.proofs.pairs.count_row.Given as goal
 
 abbrev pub invariant-loop-to : goal.invariant-loop-to

@@ -1,10 +1,5 @@
-use Prim.Native.Nat.{◌-◌}
 use native.Mathlib.Omega.{arith}
-use Rattle.cells_grid.proofs.PairLoops.{Search, Walking, walking_start, walking_length, walking_laid, walking_few, walking_place, walking_low, walking_miss, walking_fits, walking_hit, walking_end}
-use Rattle.cells_grid.proofs.pairs.count_stretch.Reads as reads
-use Rattle.cells_grid.proofs.pairs.add_to.Reads as add-to-reads
-use Rattle.cells_grid.proofs.pairs.is_later.Reads as is-later-reads
-use Rattle.lists.proofs.word.Reads as word-reads
+use Rattle.cells_grid.proofs.PairLoops.{Search, walking_start, walking_length, walking_laid, walking_few, walking_place, walking_low, walking_miss, walking_fits, walking_hit, walking_end}
 use Rattle.cells_grid.proofs.pairs.count_stretch.Goals as goal
 
 pub loop-p-init : goal.loop-p-init

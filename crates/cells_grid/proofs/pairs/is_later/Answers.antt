@@ -1,9 +1,6 @@
 -- The number of the frame is asked first, then whether it is a neighbour.
 use native.Mathlib.Omega.{arith}
 use Rattle.cells_grid.proofs.PairLoops.{later_not, later_is}
-use borrow.Author.Rules.{rules}
-use Rattle.cells_grid.proofs.pairs.is_later.Reads as reads
-use Rattle.cells_grid.proofs.crowding.is_neighbour.Reads as is-neighbour-reads
 use Rattle.cells_grid.proofs.pairs.is_later.Goals as goal
 
 pub returns-then-j-low : goal.returns-then-j-low

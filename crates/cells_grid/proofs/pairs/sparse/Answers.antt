@@ -1,9 +1,8 @@
 use mathlib.Core.Path.{ap}
-use Prim.Native.Nat.{ℕ, ◌-◌, ◌*◌}
+use Prim.Native.Nat.{ℕ, ◌*◌}
 use native.Mathlib.Omega.{arith}
 use lib.Dec.{leb}
-use Rattle.cells_grid.proofs.PairLoops.{Shared, shared_none, shared_start, shared_low, shared_fits, shared_next, shared_sum, shared_end}
-use borrow.Author.Rules.{rules}
+use Rattle.cells_grid.proofs.PairLoops.{shared_none, shared_start, shared_low, shared_fits, shared_next, shared_sum, shared_end}
 use Rattle.cells_grid.proofs.pairs.sparse.Goals as goal
 
 pub returns-then-n-eq0 : goal.returns-then-n-eq0

@@ -1,13 +1,9 @@
 -- `border_cell` meets its contract: b is the lowest of the first j listed cells in whose tree the frame has a non-zero count.
 use Prim.Native.Nat.{◌-◌}
-use mathlib.Core.Path.{ap}
-use native.Mathlib.Omega.{arith}
-use lib.ListN.{length}
-use Rattle.lists.proofs.LoopLaws.{Lowest, lowest_start}
+use Rattle.lists.proofs.LoopLaws.{Lowest}
 use Rattle.counting_tree.specs.Ready.{geometry_at}
 use Rattle.cells_grid.specs.Listing.{list_of}
-use Rattle.clustering.proofs.Bordering.{counts, can_list, few_listed, room_listed, can_ask, not_lower, no_count, lower, lowest_border, listed_cleared}
-use Rattle.clustering.proofs.Held.{can_order}
+use Rattle.clustering.proofs.Bordering.{counts}
 use Rattle.clustering.proofs.labels.border_cell.Given as goal
 
 abbrev pub invariant-loop-j : goal.invariant-loop-j

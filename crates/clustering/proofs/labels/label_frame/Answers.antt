@@ -4,7 +4,6 @@ use native.Mathlib.Omega.{arith}
 use lib.ListN.{length}
 use Rattle.clustering.proofs.Held.{few_cells}
 use Rattle.clustering.proofs.Labelled.{own_low, label_core, label_none, label_border, label_noise}
-use borrow.Author.Rules.{rules}
 use Rattle.clustering.proofs.labels.label_frame.Goals as goal
 
 pub overflow_add-at : goal.overflow_add-at

@@ -1,12 +1,9 @@
 use lib.ListN.{length, length-set}
-use borrow.Author.Rules.{rules}
-use Prim.Native.Nat.{◌*◌, ◌-◌}
+use Prim.Native.Nat.{◌*◌}
 use mathlib.Core.Path.{◌∙◌, ap}
 use native.Mathlib.Omega.{arith}
-use Rattle.counting_tree.specs.Ready.{geometry_at}
-use Rattle.clustering.specs.Clusters.{place, clusters, label_by, kind_of}
 use Rattle.clustering.proofs.Held.{few_cells}
-use Rattle.clustering.proofs.Columns.{Columns, columns_start, columns_length, columns_same, columns_step, columns_under, columns_end, columns_search}
+use Rattle.clustering.proofs.Columns.{columns_start, columns_length, columns_same, columns_step, columns_under, columns_end, columns_search}
 use Rattle.clustering.proofs.labels.label_frames.Goals as goal
 
 pub loop-i-init : goal.loop-i-init
@@ -25,7 +22,7 @@ pub bounds-work-n-in-loop-i : goal.bounds-work-n-in-loop-i
 bounds-work-n-in-loop-i c = simp length-set (omega (arith, columns_length c.loop-i.invariant, ap length c.label_frame-f.ensures.work))
 
 pub loop-i-preserved : goal.loop-i-preserved
-loop-i-preserved c =         columns_step (columns_same c.loop-i.invariant c.label_frame-f.ensures.work) c.loop-i-test.true c.label_frame-f.ensures.label c.label_frame-f.ensures.kind
+loop-i-preserved c = columns_step (columns_same c.loop-i.invariant c.label_frame-f.ensures.work) c.loop-i-test.true c.label_frame-f.ensures.label c.label_frame-f.ensures.kind
 
 pub shape_of-work : goal.shape_of-work
 shape_of-work c = columns_length c.loop-i.invariant

@@ -1,7 +1,6 @@
-use Prim.Native.Nat.{◌-◌}
 use native.Mathlib.Omega.{arith}
 use Rattle.lists.proofs.LoopLaws.{fill_length}
-use Rattle.clustering.proofs.Numbered.{Numbered, numbered_start, number_low, number_none, number_own, number_other, lowest_low, numbered_end}
+use Rattle.clustering.proofs.Numbered.{numbered_start, number_low, number_none, number_own, number_other, lowest_low, numbered_end}
 use Rattle.clustering.proofs.labels.number_clusters.Goals as goal
 
 pub loop-c-init : goal.loop-c-init

@@ -1,8 +1,6 @@
 -- `number_clusters` meets its contract: the words of the cells before c hold the numbers of their clusters.
 use Prim.Native.Nat.{◌-◌}
-use native.Mathlib.Omega.{arith}
-use Rattle.lists.proofs.LoopLaws.{fill_length}
-use Rattle.clustering.proofs.Numbered.{Numbered, numbered_start, number_low, number_none, number_own, number_other, lowest_low, numbered_end}
+use Rattle.clustering.proofs.Numbered.{Numbered}
 use Rattle.clustering.proofs.labels.number_clusters.Given as goal
 
 abbrev pub invariant-loop-c : goal.invariant-loop-c

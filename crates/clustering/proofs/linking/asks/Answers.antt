@@ -2,7 +2,6 @@
 use native.Mathlib.Omega.{arith}
 use Rattle.clustering.proofs.Held.{few_cells, room, can_order}
 use Rattle.clustering.proofs.Turning.{past_end, place_low, frame_low, not_core, by_count}
-use borrow.Author.Rules.{rules}
 use mathlib.Core.Bool.{not}
 use mathlib.Core.Path.{ap}
 use Rattle.clustering.proofs.linking.asks.Goals as goal
@@ -32,10 +31,10 @@ pub is_core-requires : goal.is_core-requires
 is_core-requires c = (frame_low c.requires.0 c.requires.1 c.requires.2 c.size_of.ensures 0 c.if-j-size_of.false c.word-start.ensures c.word-i.ensures, room c.requires.0 c.requires.1)
 
 pub returns-then-not-is_core : goal.returns-then-not-is_core
-returns-then-not-is_core c =     not_core c.requires.0 c.requires.1 c.requires.2 c.size_of.ensures _ c.if-j-size_of.false c.word-start.ensures c.word-i.ensures c.is_core.ensures (ap not c.if-not-is_core.true)
+returns-then-not-is_core c = not_core c.requires.0 c.requires.1 c.requires.2 c.size_of.ensures _ c.if-j-size_of.false c.word-start.ensures c.word-i.ensures c.is_core.ensures (ap not c.if-not-is_core.true)
 
 pub reaches-requires : goal.reaches-requires
-reaches-requires c =         (c.requires.0, c.requires.1, frame_low c.requires.0 c.requires.1 c.requires.2 c.size_of.ensures 0 c.if-j-size_of.false c.word-start.ensures c.word-i.ensures, c.requires.3, c.requires.4)
+reaches-requires c = (c.requires.0, c.requires.1, frame_low c.requires.0 c.requires.1 c.requires.2 c.size_of.ensures 0 c.if-j-size_of.false c.word-start.ensures c.word-i.ensures, c.requires.3, c.requires.4)
 
 pub returns : goal.returns
-returns c =     by_count c.requires.0 c.requires.1 c.requires.2 c.size_of.ensures _ c.if-j-size_of.false c.word-start.ensures c.word-i.ensures c.is_core.ensures (ap not c.if-not-is_core.false) c.reaches.ensures
+returns c = by_count c.requires.0 c.requires.1 c.requires.2 c.size_of.ensures _ c.if-j-size_of.false c.word-start.ensures c.word-i.ensures c.is_core.ensures (ap not c.if-not-is_core.false) c.reaches.ensures

@@ -5,7 +5,7 @@ use mathlib.Core.Path.{refl}
 use Rattle.clustering.proofs.linking.is_linked.Goals as goal
 
 pub returns-then-apart : goal.returns-then-apart
-returns-then-apart c =         link_none c.requires.0 c.requires.2 c.requires.3 (c.apart.ensures.tells c.if-apart.true)
+returns-then-apart c = link_none c.requires.0 c.requires.2 c.requires.3 (c.apart.ensures.tells c.if-apart.true)
 
 pub by_turns-requires : goal.by_turns-requires
 by_turns-requires c =
@@ -22,7 +22,7 @@ pub size_of-requires-2 : goal.size_of-requires-2
 size_of-requires-2 c = can_order c.requires.0 c.requires.1 c.requires.3
 
 pub returns-then-most-le-TURNS : goal.returns-then-most-le-TURNS
-returns-then-most-le-TURNS c =         link_few _ c.target_of-a.ensures.cell c.target_of-b.ensures.cell c.by_turns.ensures c.if-by_turns.false (size_held c.requires.0 c.requires.1 c.requires.2 c.size_of.ensures) (size_held c.requires.0 c.requires.1 c.requires.3 c.size_of-2.ensures) c.larger-most.ensures c.if-most-le-TURNS.true
+returns-then-most-le-TURNS c = link_few _ c.target_of-a.ensures.cell c.target_of-b.ensures.cell c.by_turns.ensures c.if-by_turns.false (size_held c.requires.0 c.requires.1 c.requires.2 c.size_of.ensures) (size_held c.requires.0 c.requires.1 c.requires.3 c.size_of-2.ensures) c.larger-most.ensures c.if-most-le-TURNS.true
 
 pub by_turns-requires-in-Intersecting : goal.by_turns-requires-in-Intersecting
 by_turns-requires-in-Intersecting c =
@@ -30,10 +30,10 @@ by_turns-requires-in-Intersecting c =
     record { ready = z.0; cell_lt_k = z.1.0; cell_lt_k_2 = z.1.1 }
 
 pub returns-in-Disjoint : goal.returns-in-Disjoint
-returns-in-Disjoint c =         link_none c.requires.0 c.requires.2 c.requires.3 (c.in-Disjoint.ensures.apart refl)
+returns-in-Disjoint c = link_none c.requires.0 c.requires.2 c.requires.3 (c.in-Disjoint.ensures.apart refl)
 
 pub returns-in-FullyCovered : goal.returns-in-FullyCovered
-returns-in-FullyCovered c =         link_some c.requires.0 c.requires.2 c.requires.3 (c.in-FullyCovered.ensures.touches refl)
+returns-in-FullyCovered c = link_some c.requires.0 c.requires.2 c.requires.3 (c.in-FullyCovered.ensures.touches refl)
 
 pub returns-in-Intersecting : goal.returns-in-Intersecting
-returns-in-Intersecting c =         link_late _ c.target_of-a.ensures.cell c.target_of-b.ensures.cell c.by_turns.ensures c.if-by_turns.false (size_held c.requires.0 c.requires.1 c.requires.2 c.size_of.ensures) (size_held c.requires.0 c.requires.1 c.requires.3 c.size_of-2.ensures) c.larger-most.ensures c.if-most-le-TURNS.false c.by_turns-in-Intersecting.ensures
+returns-in-Intersecting c = link_late _ c.target_of-a.ensures.cell c.target_of-b.ensures.cell c.by_turns.ensures c.if-by_turns.false (size_held c.requires.0 c.requires.1 c.requires.2 c.size_of.ensures) (size_held c.requires.0 c.requires.1 c.requires.3 c.size_of-2.ensures) c.larger-most.ensures c.if-most-le-TURNS.false c.by_turns-in-Intersecting.ensures

@@ -1,6 +1,5 @@
 -- `target_of` meets its contract.
 use Rattle.clustering.proofs.Held.{can_order}
-use borrow.Author.Rules.{rules}
 use Rattle.clustering.proofs.linking.target_of.Goals as goal
 
 pub frames_first-first-requires : goal.frames_first-first-requires

@@ -2,7 +2,6 @@
 use native.Mathlib.Omega.{arith}
 use Rattle.core_cells.specs.SettlingLaws.{open_not_covered, open_not_apart}
 use Rattle.clustering.proofs.Held.{few_cells, tree_room}
-use borrow.Author.Rules.{rules}
 use Rattle.clustering.proofs.linking.told_by_cells.Goals as goal
 
 pub overflow_add-trees : goal.overflow_add-trees

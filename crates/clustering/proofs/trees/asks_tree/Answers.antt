@@ -1,7 +1,6 @@
 -- `asks_tree` meets its contract.
 use native.Mathlib.Omega.{arith}
 use Rattle.clustering.proofs.Held.{few_cells, room, can_order}
-use borrow.Author.Rules.{rules}
 use Rattle.clustering.proofs.trees.asks_tree.Goals as goal
 
 pub one_large-requires : goal.one_large-requires

@@ -1,7 +1,5 @@
-use Prim.Native.Nat.{◌-◌, ◌≤◌}
 use native.Mathlib.Omega.{arith}
 use Rattle.clustering.proofs.Asking.{listed_below}
-use borrow.Author.Rules.{rules}
 use Rattle.clustering.proofs.trees.asks_trees.Goals as goal
 
 pub overflow_mul-n : goal.overflow_mul-n

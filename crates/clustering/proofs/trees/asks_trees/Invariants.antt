@@ -1,8 +1,5 @@
 -- `asks_trees` meets its contract: each cell of the list is one of the cells.
 use Prim.Native.Nat.{◌-◌, ◌≤◌}
-use native.Mathlib.Omega.{arith}
-use Rattle.clustering.proofs.Asking.{listed_below}
-use borrow.Author.Rules.{rules}
 use Rattle.clustering.proofs.trees.asks_trees.Given as goal
 
 abbrev pub invariant-loop-j : goal.invariant-loop-j

@@ -1,6 +1,4 @@
-use Prim.Native.Nat.{◌-◌, ◌≤◌}
 use native.Mathlib.Omega.{arith}
-use borrow.Author.Rules.{rules}
 use Rattle.clustering.proofs.trees.has_border.Goals as goal
 
 pub overflow_add-next : goal.overflow_add-next

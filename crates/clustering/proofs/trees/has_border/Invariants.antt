@@ -1,7 +1,5 @@
 -- `has_border` meets its contract: there are no more other frames than were looked at.
 use Prim.Native.Nat.{◌-◌, ◌≤◌}
-use native.Mathlib.Omega.{arith}
-use borrow.Author.Rules.{rules}
 use Rattle.clustering.proofs.trees.has_border.Given as goal
 
 abbrev pub invariant-loop-i : goal.invariant-loop-i

@@ -1,6 +1,4 @@
-use Prim.Native.Nat.{◌-◌, ◌≤◌}
 use native.Mathlib.Omega.{arith}
-use borrow.Author.Rules.{rules}
 use Rattle.clustering.proofs.trees.has_large.Goals as goal
 
 pub is_large-requires : goal.is_large-requires

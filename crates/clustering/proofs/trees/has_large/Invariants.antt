@@ -1,7 +1,5 @@
 -- `has_large` meets its contract.
 use Prim.Native.Nat.{◌-◌, ◌≤◌}
-use native.Mathlib.Omega.{arith}
-use borrow.Author.Rules.{rules}
 use Rattle.clustering.proofs.trees.has_large.Given as goal
 
 abbrev pub invariant-loop-c : goal.invariant-loop-c

@@ -1,5 +1,4 @@
 -- `is_large` meets its contract: the frames are counted.
-use borrow.Author.Rules.{rules}
 use Rattle.clustering.proofs.trees.is_large.Goals as goal
 
 pub returns : goal.returns

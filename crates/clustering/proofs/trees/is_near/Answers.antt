@@ -2,7 +2,6 @@
 use native.Mathlib.Omega.{arith}
 use Rattle.clustering.proofs.Held.{few_cells, room, can_order}
 use Rattle.clustering.proofs.Turning.{place_low, frame_low}
-use borrow.Author.Rules.{rules}
 use Rattle.clustering.proofs.trees.is_near.Goals as goal
 
 pub size_of-requires : goal.size_of-requires

@@ -1,6 +1,3 @@
-use Prim.Native.Nat.{◌-◌, ◌≤◌}
-use native.Mathlib.Omega.{arith}
-use borrow.Author.Rules.{rules}
 use Rattle.clustering.proofs.trees.is_soon_near.Goals as goal
 
 pub is_near-requires : goal.is_near-requires

@@ -1,7 +1,5 @@
 -- `is_soon_near` meets its contract: it ends.
 use Prim.Native.Nat.{◌-◌, ◌≤◌}
-use native.Mathlib.Omega.{arith}
-use borrow.Author.Rules.{rules}
 use Rattle.clustering.proofs.trees.is_soon_near.Given as goal
 
 abbrev pub invariant-loop-j : goal.invariant-loop-j

@@ -3,7 +3,6 @@ use native.Mathlib.Omega.{arith}
 use Rattle.clustering.proofs.Held.{frames, few_cells}
 use Rattle.clustering.proofs.Trying.{can_ask, room_still, grown_still, can_unite}
 use Rattle.clustering.proofs.SoonUniting.{can_soon, soon_asked, soon_united}
-use borrow.Author.Rules.{rules}
 use Rattle.clustering.proofs.trees.meet_soon.Goals as goal
 
 pub overflow_add-e : goal.overflow_add-e

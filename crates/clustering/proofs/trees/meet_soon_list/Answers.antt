@@ -1,7 +1,5 @@
-use Prim.Native.Nat.{◌-◌, ◌≤◌}
 use native.Mathlib.Omega.{arith}
-use Rattle.counting_tree.specs.Ready.{geometry_at}
-use Rattle.clustering.proofs.ByLists.{Leading, leading_start, leading_on, left_stand, in_list}
+use Rattle.clustering.proofs.ByLists.{leading_start, leading_on, left_stand, in_list}
 use Rattle.clustering.proofs.trees.meet_soon_list.Goals as goal
 
 pub loop-j-init : goal.loop-j-init

@@ -1,8 +1,7 @@
 -- `meet_soon_list` meets its contract: whatever is met, only the leaders change, and they fall.
 use Prim.Native.Nat.{◌-◌, ◌≤◌}
-use native.Mathlib.Omega.{arith}
 use Rattle.counting_tree.specs.Ready.{geometry_at}
-use Rattle.clustering.proofs.ByLists.{Leading, leading_start, leading_on, left_stand, in_list}
+use Rattle.clustering.proofs.ByLists.{Leading}
 use Rattle.clustering.proofs.trees.meet_soon_list.Given as goal
 
 abbrev pub invariant-loop-j : goal.invariant-loop-j

@@ -1,9 +1,8 @@
 use mathlib.Core.Path.{refl, ap}
-use Prim.Native.Nat.{◌-◌}
 use lib.ListN.{length}
 use native.Mathlib.Omega.{arith}
 use Rattle.clustering.proofs.Held.{few_cells, tree_room}
-use Rattle.clustering.proofs.Asking.{Asking, mark_room, can_list, can_ask, can_clear, asking_on}
+use Rattle.clustering.proofs.Asking.{mark_room, can_list, can_ask, can_clear, asking_on}
 use Rattle.clustering.proofs.trees.some_ask.Goals as goal
 
 pub loop-c-init : goal.loop-c-init

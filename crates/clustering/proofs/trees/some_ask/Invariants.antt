@@ -1,10 +1,6 @@
 -- `some_ask` meets its contract: each list is cleared, and so the words are as they were.
-use mathlib.Core.Path.{refl, ap}
 use Prim.Native.Nat.{◌-◌}
-use lib.ListN.{length}
-use native.Mathlib.Omega.{arith}
-use Rattle.clustering.proofs.Held.{few_cells, tree_room}
-use Rattle.clustering.proofs.Asking.{Asking, mark_room, can_list, can_ask, can_clear, asking_on}
+use Rattle.clustering.proofs.Asking.{Asking}
 use Rattle.clustering.proofs.trees.some_ask.Given as goal
 
 abbrev pub invariant-loop-c : goal.invariant-loop-c

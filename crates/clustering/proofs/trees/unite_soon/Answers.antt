@@ -1,7 +1,6 @@
-use Prim.Native.Nat.{◌-◌}
 use native.Mathlib.Omega.{arith}
 use Rattle.clustering.proofs.Held.{tree_room}
-use Rattle.clustering.proofs.ByLists.{left_stand, Standing, standing_start, mark_room, can_list, can_unite_list, leading₁, can_clear, standing_on}
+use Rattle.clustering.proofs.ByLists.{left_stand, standing_start, mark_room, can_list, can_unite_list, leading₁, can_clear, standing_on}
 use Rattle.clustering.proofs.trees.unite_soon.Goals as goal
 
 pub loop-c-init : goal.loop-c-init

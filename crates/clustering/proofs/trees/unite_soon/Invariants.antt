@@ -1,8 +1,6 @@
 -- `unite_soon` meets its contract: after each cell only the leaders have changed, and they fall.
 use Prim.Native.Nat.{◌-◌}
-use native.Mathlib.Omega.{arith}
-use Rattle.clustering.proofs.Held.{tree_room}
-use Rattle.clustering.proofs.ByLists.{left_stand, Standing, standing_start, mark_room, can_list, can_unite_list, leading₁, can_clear, standing_on}
+use Rattle.clustering.proofs.ByLists.{Standing}
 use Rattle.clustering.proofs.trees.unite_soon.Given as goal
 
 abbrev pub invariant-loop-c : goal.invariant-loop-c

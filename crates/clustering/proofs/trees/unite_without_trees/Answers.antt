@@ -3,7 +3,6 @@ use native.Mathlib.Omega.{arith}
 use Rattle.clustering.proofs.Held.{few_cells}
 use Rattle.clustering.proofs.Phases.{few_leaders, can_unite_close}
 use Rattle.clustering.proofs.Asking.{can_mark_close, can_unite_soon, can_mark_soon, united}
-use borrow.Author.Rules.{rules}
 use Rattle.clustering.proofs.trees.unite_without_trees.Goals as goal
 
 pub overflow_add-e : goal.overflow_add-e

@@ -3,7 +3,6 @@ use native.Mathlib.Omega.{arith}
 use Rattle.clustering.proofs.Held.{few_cells, can_order, tree_held}
 use Rattle.clustering.proofs.Whole.{search₀}
 use Rattle.clustering.proofs.Asking.{unchanged, can_ask_some, cleared}
-use borrow.Author.Rules.{rules}
 use Rattle.clustering.proofs.trees.wanted.Goals as goal
 
 pub returns-then-not-may_lack : goal.returns-then-not-may_lack

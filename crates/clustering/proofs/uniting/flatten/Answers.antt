@@ -1,11 +1,8 @@
-use Prim.Native.Nat.{◌-◌}
 use mathlib.Core.Path.{refl, ◌∙◌}
 use native.Mathlib.Omega.{arith}
-use lib.ListN.{length}
 use Rattle.lists.specs.ListLaws.{length_numbers}
 use Rattle.lists.proofs.WordLaws.{over_all}
-use Rattle.lists.proofs.LoopLaws.{Fill, fill_start, fill_length, fill_end}
-use Rattle.partitions.specs.Leaders.{root}
+use Rattle.lists.proofs.LoopLaws.{fill_start, fill_length, fill_end}
 use Rattle.clustering.proofs.Flat.{leader_low, flat_step}
 use Rattle.clustering.proofs.uniting.flatten.Goals as goal
 

@@ -1,13 +1,8 @@
 -- `flatten` meets its contract: the words before c hold roots.
 use Prim.Native.Nat.{◌-◌}
-use mathlib.Core.Path.{refl, ◌∙◌}
-use native.Mathlib.Omega.{arith}
 use lib.ListN.{length}
-use Rattle.lists.specs.ListLaws.{length_numbers}
-use Rattle.lists.proofs.WordLaws.{over_all}
-use Rattle.lists.proofs.LoopLaws.{Fill, fill_start, fill_length, fill_end}
+use Rattle.lists.proofs.LoopLaws.{Fill}
 use Rattle.partitions.specs.Leaders.{root}
-use Rattle.clustering.proofs.Flat.{leader_low, flat_step}
 use Rattle.clustering.proofs.uniting.flatten.Given as goal
 
 abbrev pub invariant-loop-c : goal.invariant-loop-c

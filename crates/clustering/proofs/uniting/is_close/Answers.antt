@@ -33,7 +33,7 @@ returns-then-square_apart-v c =
     record { value = z.0; touches = z.1 }
 
 pub is_core-requires : goal.is_core-requires
-is_core-requires c =         ((frames_low c.requires.0 c.requires.1 c.requires.2 c.requires.3 c.word-i.ensures c.word-j.ensures).0, room c.requires.0 c.requires.1)
+is_core-requires c = ((frames_low c.requires.0 c.requires.1 c.requires.2 c.requires.3 c.word-i.ensures c.word-j.ensures).0, room c.requires.0 c.requires.1)
 
 pub returns-then-not-is_core : goal.returns-then-not-is_core
 returns-then-not-is_core c =
@@ -41,7 +41,7 @@ returns-then-not-is_core c =
     record { value = z.0; touches = z.1 }
 
 pub is_core-requires-2 : goal.is_core-requires-2
-is_core-requires-2 c =         ((frames_low c.requires.0 c.requires.1 c.requires.2 c.requires.3 c.word-i.ensures c.word-j.ensures).1, room c.requires.0 c.requires.1)
+is_core-requires-2 c = ((frames_low c.requires.0 c.requires.1 c.requires.2 c.requires.3 c.word-i.ensures c.word-j.ensures).1, room c.requires.0 c.requires.1)
 
 pub returns : goal.returns
 returns c =

@@ -2,7 +2,6 @@
 use mathlib.Core.Logic.{inr}
 use native.Mathlib.Omega.{arith}
 use Rattle.clustering.proofs.Marking.{can_flatten, size₁, can_write, marked}
-use borrow.Author.Rules.{rules}
 use Rattle.clustering.proofs.uniting.mark_cells.Goals as goal
 
 pub flatten-requires : goal.flatten-requires

@@ -1,6 +1,5 @@
 -- `run_with` meets its contract.
 use borrow.Author.Tests.{eq-eqb, ne_eqb}
-use Rattle.clustering.proofs.uniting.run_with.Reads as reads
 use Rattle.clustering.proofs.uniting.run_with.Goals as goal
 
 pub returns-then-own-mark : goal.returns-then-own-mark

@@ -1,10 +1,7 @@
 -- `touches_cell` meets its contract, by the core frames of c that are still to be asked for.
 use Prim.Native.Nat.{◌-◌}
-use native.Mathlib.Omega.{arith}
-use borrow.Author.Rules.{rules}
 use Rattle.counting_tree.specs.Ready.{geometry_at}
-use Rattle.clustering.proofs.Held.{few_cells, room, can_order}
-use Rattle.clustering.proofs.Touching.{Touching, touch_start, frame_low, touch_hit, touch_miss, touch_skip, touch_end, touch_none}
+use Rattle.clustering.proofs.Touching.{Touching}
 use Rattle.clustering.proofs.uniting.touches_cell.Given as goal
 
 abbrev pub invariant-loop-p : goal.invariant-loop-p

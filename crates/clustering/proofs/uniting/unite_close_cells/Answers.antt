@@ -1,18 +1,17 @@
 use mathlib.Core.Path.{refl}
-use Prim.Native.Nat.{◌-◌}
 use native.Mathlib.Omega.{arith}
 use Rattle.clustering.proofs.Held.{few_cells}
-use Rattle.clustering.proofs.Closing.{Turns, sorted_low, turns_start, places_fit, cells_low, turns_on, turns_end}
+use Rattle.clustering.proofs.Closing.{sorted_low, turns_start, places_fit, cells_low, turns_on, turns_end}
 use Rattle.clustering.proofs.uniting.unite_close_cells.Goals as goal
 
 pub sorted_count-turns-requires : goal.sorted_count-turns-requires
 sorted_count-turns-requires c = (few_cells c.requires.ready.0 c.requires.ready.1, c.requires.n_in_bounds.0)
 
 pub overflow_mul-turns : goal.overflow_mul-turns
-overflow_mul-turns c =         omega (arith, c.sorted_count-turns.ensures, sorted_low c.requires.ready.0 c.requires.ready.1 c.requires.ready.2 c.requires.n_in_bounds.0, few_cells c.requires.ready.0 c.requires.ready.1)
+overflow_mul-turns c = omega (arith, c.sorted_count-turns.ensures, sorted_low c.requires.ready.0 c.requires.ready.1 c.requires.ready.2 c.requires.n_in_bounds.0, few_cells c.requires.ready.0 c.requires.ready.1)
 
 pub loop-q-init : goal.loop-q-init
-loop-q-init c =         turns_start c.requires.ready.0 c.requires.ready.1 c.requires.ready.2 c.requires.n_in_bounds.0 c.requires.n_in_bounds.1 refl
+loop-q-init c = turns_start c.requires.ready.0 c.requires.ready.1 c.requires.ready.2 c.requires.n_in_bounds.0 c.requires.n_in_bounds.1 refl
 
 pub word-c-requires : goal.word-c-requires
 word-c-requires c =

@@ -1,9 +1,6 @@
 -- `unite_close_cells` meets its contract: the turns that are left, from the leaders that stand now, leave what all of them leave of those at first.
-use mathlib.Core.Path.{refl}
 use Prim.Native.Nat.{◌-◌}
-use native.Mathlib.Omega.{arith}
-use Rattle.clustering.proofs.Held.{few_cells}
-use Rattle.clustering.proofs.Closing.{Turns, sorted_low, turns_start, places_fit, cells_low, turns_on, turns_end}
+use Rattle.clustering.proofs.Closing.{Turns}
 use Rattle.clustering.proofs.uniting.unite_close_cells.Given as goal
 
 abbrev pub invariant-loop-q : goal.invariant-loop-q

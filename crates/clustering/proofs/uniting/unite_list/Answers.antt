@@ -1,11 +1,9 @@
-use Prim.Native.Nat.{◌-◌}
 use native.Mathlib.Omega.{arith}
-use Rattle.counting_tree.specs.Ready.{geometry_at}
-use Rattle.clustering.proofs.ByLists.{Listing, listing_start, next_each, listing_on, listing_end}
+use Rattle.clustering.proofs.ByLists.{listing_start, next_each, listing_on, listing_end}
 use Rattle.clustering.proofs.uniting.unite_list.Goals as goal
 
 pub loop-j-init : goal.loop-j-init
-loop-j-init c =         listing_start c.requires.ready.0 c.requires.ready.1 c.requires.ready.2 c.requires.ready.3 c.requires.n_in_bounds.0 c.requires.n_in_bounds.1 c.requires.by_index
+loop-j-init c = listing_start c.requires.ready.0 c.requires.ready.1 c.requires.ready.2 c.requires.ready.3 c.requires.n_in_bounds.0 c.requires.n_in_bounds.1 c.requires.by_index
 
 pub overflow_add-n : goal.overflow_add-n
 overflow_add-n c = omega (arith, c.loop-j.invariant.few, c.loop-j.invariant.leading.room)

@@ -1,8 +1,7 @@
 -- `unite_list` meets its contract: the pairs that are left, met from the leaders that stand now, leave what all of them leave of those at first.
 use Prim.Native.Nat.{◌-◌}
-use native.Mathlib.Omega.{arith}
 use Rattle.counting_tree.specs.Ready.{geometry_at}
-use Rattle.clustering.proofs.ByLists.{Listing, listing_start, next_each, listing_on, listing_end}
+use Rattle.clustering.proofs.ByLists.{Listing}
 use Rattle.clustering.proofs.uniting.unite_list.Given as goal
 
 abbrev pub invariant-loop-j : goal.invariant-loop-j

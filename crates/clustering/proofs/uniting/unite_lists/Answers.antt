@@ -1,7 +1,6 @@
-use Prim.Native.Nat.{◌-◌}
 use native.Mathlib.Omega.{arith}
 use Rattle.clustering.proofs.Held.{few_cells}
-use Rattle.clustering.proofs.Stages.{Stages, stages_start, stages_end, can_mark, can_unite_stage, stages_on}
+use Rattle.clustering.proofs.Stages.{stages_start, stages_end, can_mark, can_unite_stage, stages_on}
 use Rattle.clustering.proofs.uniting.unite_lists.Goals as goal
 
 pub loop-from-init : goal.loop-from-init

@@ -1,9 +1,6 @@
-use Prim.Native.Nat.{◌+◌, ◌-◌, ◌*◌}
 use mathlib.Core.Path.{◌∙◌}
 use native.Mathlib.Omega.{arith}
-use Rattle.hyperparams.specs.Params.{max_frames}
-use Rattle.counting_tree.specs.Ready.{geometry_at}
-use Rattle.clustering.proofs.Pairs.{Going, going_start, going_row, going_end, going_off, going_on, less}
+use Rattle.clustering.proofs.Pairs.{going_start, going_row, going_end, going_off, going_on, less}
 use Rattle.clustering.proofs.uniting.unite_pairs.Goals as goal
 
 pub loop-c-init : goal.loop-c-init

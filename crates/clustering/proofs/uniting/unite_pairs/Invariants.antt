@@ -1,10 +1,8 @@
 -- `unite_pairs` meets its contract: what is left of the pairs, run from the leaders that stand now, ends as all of them do from those at first.
 use Prim.Native.Nat.{◌+◌, ◌-◌, ◌*◌}
-use mathlib.Core.Path.{◌∙◌}
-use native.Mathlib.Omega.{arith}
 use Rattle.hyperparams.specs.Params.{max_frames}
 use Rattle.counting_tree.specs.Ready.{geometry_at}
-use Rattle.clustering.proofs.Pairs.{Going, going_start, going_row, going_end, going_off, going_on, less}
+use Rattle.clustering.proofs.Pairs.{Going}
 use Rattle.clustering.proofs.uniting.unite_pairs.Given as goal
 
 abbrev pub invariant-loop-c : goal.invariant-loop-c

@@ -1,7 +1,6 @@
-use Prim.Native.Nat.{◌-◌}
 use native.Mathlib.Omega.{arith}
 use Rattle.clustering.proofs.Held.{tree_room}
-use Rattle.clustering.proofs.ByLists.{Rows, rows_start, row_cell, mark_room, can_list, can_unite_list, can_clear_row, rows_on, rows_skip, rows_end}
+use Rattle.clustering.proofs.ByLists.{rows_start, row_cell, mark_room, can_list, can_unite_list, can_clear_row, rows_on, rows_skip, rows_end}
 use Rattle.clustering.proofs.uniting.unite_stage.Goals as goal
 
 pub loop-c-init : goal.loop-c-init

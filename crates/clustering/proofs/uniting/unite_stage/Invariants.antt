@@ -1,8 +1,6 @@
 -- `unite_stage` meets its contract: the pairs of the cells that are left, met from the leaders that stand now, leave what all pairs leave of those at first.
 use Prim.Native.Nat.{◌-◌}
-use native.Mathlib.Omega.{arith}
-use Rattle.clustering.proofs.Held.{tree_room}
-use Rattle.clustering.proofs.ByLists.{Rows, rows_start, row_cell, mark_room, can_list, can_unite_list, can_clear_row, rows_on, rows_skip, rows_end}
+use Rattle.clustering.proofs.ByLists.{Rows}
 use Rattle.clustering.proofs.uniting.unite_stage.Given as goal
 
 abbrev pub invariant-loop-c : goal.invariant-loop-c

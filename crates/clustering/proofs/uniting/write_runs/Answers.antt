@@ -1,5 +1,5 @@
 use native.Mathlib.Omega.{arith}
-use Rattle.clustering.proofs.Marking.{Writing, writing_start, writing_length, place_room, cell_low, mark_room, run_low, writing_on, writing_end}
+use Rattle.clustering.proofs.Marking.{writing_start, writing_length, place_room, cell_low, mark_room, run_low, writing_on, writing_end}
 use Rattle.clustering.proofs.uniting.write_runs.Goals as goal
 
 pub loop-p-init : goal.loop-p-init

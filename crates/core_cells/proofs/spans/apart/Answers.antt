@@ -1,5 +1,4 @@
 -- One of the cells has few frames, or their spans tell.
-use borrow.Author.Rules.{rules}
 use Rattle.lists.specs.ListLaws.{true_T}
 use Rattle.core_cells.proofs.Placing.{cell_order}
 use Rattle.core_cells.proofs.Spanning.{first_few, second_few, by_spans, spans_tell}

@@ -2,7 +2,6 @@
 use Prim.Native.Nat.{◌-◌}
 use native.Mathlib.Omega.{arith}
 use Rattle.core_cells.proofs.Spanning.{gap_above, gap_below, gap_none, square_small}
-use borrow.Author.Rules.{rules}
 use Rattle.core_cells.proofs.spans.gap.Goals as goal
 
 pub overflow_mul-result : goal.overflow_mul-result

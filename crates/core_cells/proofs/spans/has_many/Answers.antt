@@ -1,5 +1,4 @@
 -- `has_many` meets its contract: the frames are counted.
-use borrow.Author.Rules.{rules}
 use Rattle.core_cells.proofs.spans.has_many.Goals as goal
 
 pub returns : goal.returns

@@ -1,6 +1,5 @@
 -- The higher of two counts in each channel.
 use Rattle.core_cells.proofs.Spanning.{highest_is}
-use borrow.Author.Rules.{rules}
 use Rattle.core_cells.proofs.spans.highest.Goals as goal
 
 pub returns : goal.returns

@@ -1,6 +1,5 @@
 -- The lower of two counts in each channel.
 use Rattle.core_cells.proofs.Spanning.{lowest_is}
-use borrow.Author.Rules.{rules}
 use Rattle.core_cells.proofs.spans.lowest.Goals as goal
 
 pub returns : goal.returns

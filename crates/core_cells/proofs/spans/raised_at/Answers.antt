@@ -1,6 +1,5 @@
 -- The edges of blocks of the width 1 are the counts themselves.
 use Rattle.core_cells.proofs.Spanning.{raised_value, raised_low}
-use borrow.Author.Rules.{rules}
 use Rattle.core_cells.proofs.spans.raised_at.Goals as goal
 
 pub returns : goal.returns

@@ -1,11 +1,9 @@
 use Prim.Native.Nat.{◌+◌, ◌-◌, ◌*◌}
 use native.Mathlib.Omega.{arith}
-use borrow.Author.Rules.{rules}
 use Rattle.lists.specs.Words.{part}
-use Rattle.counting_tree.specs.Ready.{Ready}
 use Rattle.core_cells.specs.Spans.{raised_at}
 use Rattle.core_cells.proofs.Looking.{look_below}
-use Rattle.core_cells.proofs.Spanning.{Spanning, spanning_start, spanning_step, spanning_end, low_ends}
+use Rattle.core_cells.proofs.Spanning.{spanning_start, spanning_step, spanning_end, low_ends}
 use Rattle.core_cells.proofs.spans.span_among.Goals as goal
 
 pub raised_at-first-requires : goal.raised_at-first-requires

@@ -1,12 +1,8 @@
 -- What the places from p on give is what all give.
-use Prim.Native.Nat.{◌+◌, ◌-◌, ◌*◌}
-use native.Mathlib.Omega.{arith}
-use borrow.Author.Rules.{rules}
-use Rattle.lists.specs.Words.{part}
+use Prim.Native.Nat.{◌-◌}
 use Rattle.counting_tree.specs.Ready.{Ready}
 use Rattle.core_cells.specs.Spans.{raised_at}
-use Rattle.core_cells.proofs.Looking.{look_below}
-use Rattle.core_cells.proofs.Spanning.{Spanning, spanning_start, spanning_step, spanning_end, low_ends}
+use Rattle.core_cells.proofs.Spanning.{Spanning}
 use Rattle.core_cells.proofs.spans.span_among.Given as goal
 
 abbrev pub invariant-loop-p : goal.invariant-loop-p

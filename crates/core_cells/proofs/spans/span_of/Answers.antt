@@ -1,5 +1,4 @@
 -- The span of the frames at the places of the cell.
-use borrow.Author.Rules.{rules}
 use native.Mathlib.Omega.{arith}
 use Rattle.core_cells.proofs.Rooted.{first_low}
 use Rattle.core_cells.proofs.Placing.{first_place, cell_order, cell_look}

@@ -1,7 +1,6 @@
 -- The gaps of the four channels.
 use native.Mathlib.Omega.{arith}
 use Rattle.core_cells.proofs.Spanning.{gaps_are}
-use borrow.Author.Rules.{rules}
 use Rattle.core_cells.proofs.spans.square_gap.Goals as goal
 
 pub gap-one-requires : goal.gap-one-requires
