@@ -6,7 +6,6 @@ use Rattle.hyperparams.specs.declared.Params.{Params}
 use Rattle.hyperparams.specs.declared.Checked.{Checked}
 use Rattle.hyperparams.specs.Params.{float, slack_at, checked_of, number_of, work_words}
 use Rattle.appx_dbscan.specs.declared.Outcome.{Outcome}
-use Rattle.appx_dbscan.specs.declared.Outcome.TheVariants as Outcome
 use Rattle.appx_dbscan.specs.Transform.{run, outcome_of, labels_left, kinds_left}
 use Rattle.desk.specs.declared.Printed.{Printed}
 

@@ -1,7 +1,6 @@
 -- `appx_dbscan_transform` meets its contract.
 use mathlib.Core.Path.{ap, ◌∙◌}
 use Rattle.appx_dbscan_c.specs.Told.{told_of}
-use borrow.Author.Rules.{rules}
 use Rattle.appx_dbscan_c.proofs.appx_dbscan_transform.Goals as goal
 
 pub returns : goal.returns

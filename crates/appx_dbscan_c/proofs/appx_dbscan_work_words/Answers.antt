@@ -1,6 +1,5 @@
 -- `appx_dbscan_work_words` meets its contract.
 use borrow.Author.Tests.{le-leb, lt-leb}
-use borrow.Author.Rules.{rules}
 use Rattle.appx_dbscan_c.proofs.appx_dbscan_work_words.Goals as goal
 
 pub returns-then-frames-gt-MAX_FRAMES : goal.returns-then-frames-gt-MAX_FRAMES

@@ -2,7 +2,6 @@
 use mathlib.Core.Path.{sym, ap, ◌∙◌}
 use Prim.Native.Nat.{ℕ}
 use Rattle.appx_dbscan_c.specs.Told.{told_of}
-use borrow.Author.Rules.{rules}
 use Rattle.appx_dbscan_c.proofs.told.Goals as goal
 
 pub returns-in-Labelled : goal.returns-in-Labelled

@@ -7,7 +7,6 @@ use lib.ListN.{length, take, replicate}
 use Rattle.lists.proofs.PartLaws.{part_same}
 use Rattle.desk.specs.Desk.{desk_of, most_bytes}
 use Rattle.desk.proofs.Whole.{desk_length}
-use borrow.Author.Rules.{rules}
 use Rattle.desk.proofs.answer.Goals as goal
 
 pub returns : goal.returns

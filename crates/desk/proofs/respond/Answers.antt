@@ -5,7 +5,6 @@ use lib.ListN.{length}
 use Rattle.lists.specs.Words.{over}
 use Rattle.desk.specs.Desk.{hex2, refusal_line}
 use Rattle.desk.specs.Lengths.{desk_malformed, desk_whole}
-use borrow.Author.Rules.{rules}
 use mathlib.Core.Bool.{not}
 use Rattle.desk.proofs.respond.Goals as goal
 

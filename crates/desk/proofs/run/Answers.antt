@@ -5,7 +5,6 @@ use lib.ListN.{length}
 use lib.Seq.{length-take-le}
 use Rattle.lists.specs.Words.{over}
 use Rattle.desk.proofs.Whole.{Frames, sizes, answered}
-use borrow.Author.Rules.{rules}
 use Rattle.desk.proofs.run.Goals as goal
 
 pub overflow_mul-n : goal.overflow_mul-n

@@ -18,8 +18,7 @@ take-put_mid_more a room k xs ys within fits =
 pub loop-n-preserved : goal.loop-n-preserved
 loop-n-preserved g c =
     let more = c.read_some-more.result in
-    let fits : more ≤ length c.read_some-more.new.room = omega arith in
-    (
+    let fits : more ≤ length c.read_some-more.new.room = omega arith in (
       search rules,
       search rules,
       subst (Consumes _ _) (sym (take-put_mid_more c.loop-n.n _ more c.loop-n.buffer c.read_some-more.new.room c.loop-n.invariant.1 fits))

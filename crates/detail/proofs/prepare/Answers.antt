@@ -5,8 +5,7 @@ use Rattle.detail.proofs.prepare.Goals as goal
 
 pub label_points-requires : goal.label_points-requires
 label_points-requires c =
-    let room : 24 * c.args.n ≤ length c.args.work.now = omega arith in
-    (
+    let room : 24 * c.args.n ≤ length c.args.work.now = omega arith in (
       c.requires.0,
       arranged₁ c.requires.0 c.args.work.now room c.clear_words.ensures c.populate-k.ensures.value c.populate-k.ensures.work_after,
       search rules,

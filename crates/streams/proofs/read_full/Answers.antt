@@ -17,8 +17,7 @@ take-put_mid_more a room k xs ys within fits =
 
 pub loop-n-preserved : goal.loop-n-preserved
 loop-n-preserved g c =
-    let read = c.in_ok-more.ensures in
-    (
+    let read = c.in_ok-more.ensures in (
       search rules,
       search rules,
       subst (Consumes _ _) (sym (take-put_mid_more c.loop-n.n _ c.in_ok-more.more c.loop-n.buffer c.read.new.buf c.loop-n.invariant.1 read.bound.0))

@@ -1,11 +1,7 @@
 -- The lines that are left decide all of them; each is at most 17 bytes.
-use mathlib.Core.Path.{◌≡◌, sym, ap, ◌∙◌}
-use Prim.Native.Nat.{ℕ, ◌+◌, ◌-◌, ◌*◌, ◌≤◌}
-use native.Mathlib.Omega.{arith}
-use borrow.Author.Tests.{not-true, not-false}
+use mathlib.Core.Path.{◌≡◌}
+use Prim.Native.Nat.{◌+◌, ◌-◌, ◌*◌, ◌≤◌}
 use Rattle.desk.specs.Desk.{are_lines}
-use Rattle.desk.proofs.Lines.{lines_stop, lines_go_on}
-use mathlib.Core.Bool.{not}
 use Rattle.desk.proofs.input.are_lines.Given as goal
 
 abbrev pub invariant-loop : goal.invariant-loop

@@ -1,7 +1,6 @@
 -- Past the end the default is read.
 use mathlib.Core.Path.{sym}
 use lib.ListN.{get_or-eq_default}
-use borrow.Author.Rules.{rules}
 use Rattle.desk.proofs.input.byte.Goals as goal
 
 pub returns : goal.returns

@@ -5,7 +5,6 @@ use native.Mathlib.Nat.{div-le_self}
 use mir.Facts.{to_z-of_z}
 use mir.Syntax.{w16}
 use Rattle.desk.specs.Desk.{signed, count_at}
-use borrow.Author.Rules.{rules}
 use Rattle.desk.proofs.input.count_at.Goals as goal
 
 pub overflow_add-i-2 : goal.overflow_add-i-2

@@ -4,7 +4,6 @@ use mathlib.Core.Bool.{true, false}
 use native.Mathlib.Omega.{arith}
 use Rattle.desk.specs.Desk.{is_decimal, is_letter, digit_of}
 use Rattle.desk.proofs.Lines.{within}
-use borrow.Author.Rules.{rules}
 use Rattle.desk.proofs.input.digit.Goals as goal
 
 pub overflow_sub-result : goal.overflow_sub-result

@@ -1,7 +1,6 @@
 -- Two times two digits.
 use native.Mathlib.Omega.{arith}
 use Rattle.desk.specs.Desk.{four}
-use borrow.Author.Rules.{rules}
 use Rattle.desk.proofs.input.four.Goals as goal
 
 pub returns : goal.returns

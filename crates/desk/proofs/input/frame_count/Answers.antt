@@ -5,7 +5,6 @@ use lib.ListN.{length}
 use native.Mathlib.Omega.{arith}
 use native.Mathlib.Nat.{zero-div}
 use Rattle.desk.specs.Desk.{channels_of}
-use borrow.Author.Rules.{rules}
 use Rattle.desk.proofs.input.frame_count.Goals as goal
 
 pub returns-then-input-le-LINE_ONE : goal.returns-then-input-le-LINE_ONE

@@ -1,7 +1,6 @@
 -- The second test is made only where the first fails.
 use Rattle.desk.specs.Desk.{is_decimal, is_letter}
 use Rattle.desk.proofs.Lines.{either_true, either_false}
-use borrow.Author.Rules.{rules}
 use Rattle.desk.proofs.input.is_digit.Goals as goal
 
 pub returns-then-is_decimal : goal.returns-then-is_decimal

@@ -1,5 +1,5 @@
 use mathlib.Core.Path.{◌≡◌, sym, ap, ◌∙◌}
-use Prim.Native.Nat.{ℕ, ◌+◌, ◌-◌, ◌≤◌}
+use Prim.Native.Nat.{ℕ, ◌+◌, ◌-◌}
 use native.Mathlib.Omega.{arith}
 use borrow.Author.Tests.{not-true, not-false}
 use lib.Dec.{eqb}
@@ -21,7 +21,7 @@ pub is_digit-requires : goal.is_digit-requires
 is_digit-requires c = tt
 
 pub returns-then-not-is_digit : goal.returns-then-not-is_digit
-returns-then-not-is_digit c =         sym (line_stops _ _ _ c.loop-i-test.true c.byte.ensures c.is_digit.ensures (not-true _ (ap not c.if-not-is_digit.true))) ∙ c.loop-i.invariant.1.1
+returns-then-not-is_digit c = sym (line_stops _ _ _ c.loop-i-test.true c.byte.ensures c.is_digit.ensures (not-true _ (ap not c.if-not-is_digit.true))) ∙ c.loop-i.invariant.1.1
 
 pub loop-i-preserved : goal.loop-i-preserved
 loop-i-preserved c = (

@@ -1,13 +1,7 @@
 -- What is left of the line from i on decides the whole line.
-use mathlib.Core.Path.{◌≡◌, sym, ap, ◌∙◌}
-use Prim.Native.Nat.{ℕ, ◌+◌, ◌-◌, ◌≤◌}
-use native.Mathlib.Omega.{arith}
-use borrow.Author.Tests.{not-true, not-false}
-use lib.Dec.{eqb}
-use lib.ListN.{get_or}
+use mathlib.Core.Path.{◌≡◌}
+use Prim.Native.Nat.{◌+◌, ◌-◌, ◌≤◌}
 use Rattle.desk.specs.Desk.{is_line}
-use Rattle.desk.proofs.Lines.{line_stops, line_goes_on}
-use mathlib.Core.Bool.{not}
 use Rattle.desk.proofs.input.is_line.Given as goal
 
 abbrev pub invariant-loop-i : goal.invariant-loop-i

@@ -1,10 +1,8 @@
-use Prim.Native.Nat.{◌-◌}
 use mathlib.Core.Path.{◌∙◌}
 use native.Mathlib.Omega.{arith}
 use mir.Facts.{to_z-of_z}
 use mir.Syntax.{w16}
-use Rattle.lists.proofs.LoopLaws.{Fill, fill_start, fill_step, fill_length, fill_end}
-use Rattle.desk.specs.Desk.{count_at}
+use Rattle.lists.proofs.LoopLaws.{fill_start, fill_step, fill_length, fill_end}
 use Rattle.desk.proofs.input.read_points.Goals as goal
 
 pub loop-i-init : goal.loop-i-init

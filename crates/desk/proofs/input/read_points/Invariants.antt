@@ -1,9 +1,6 @@
 -- A column of counts is filled.
 use Prim.Native.Nat.{◌-◌}
-use mathlib.Core.Path.{◌∙◌}
-use native.Mathlib.Omega.{arith}
-use mir.Facts.{to_z-of_z}
-use Rattle.lists.proofs.LoopLaws.{Fill, fill_start, fill_step, fill_length, fill_end}
+use Rattle.lists.proofs.LoopLaws.{Fill}
 use Rattle.desk.specs.Desk.{count_at}
 use Rattle.desk.proofs.input.read_points.Given as goal
 

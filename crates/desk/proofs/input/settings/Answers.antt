@@ -1,6 +1,5 @@
 -- Each field is read at its place.
 use Rattle.desk.specs.Desk.{parsed}
-use borrow.Author.Rules.{rules}
 use Rattle.desk.proofs.input.settings.Goals as goal
 
 pub returns : goal.returns

@@ -1,10 +1,7 @@
 -- The power is 2 to the number of turns.
-use mathlib.Core.Path.{◌≡◌, refl, ap, ◌∙◌}
-use Prim.Native.Nat.{ℕ, ◌-◌, ◌^◌, ◌≤◌}
-use native.Mathlib.Omega.{arith}
-use lib.Ieee.{Float, binary64, mul, div, of_int, of_bits}
-use Rattle.hyperparams.specs.Params.{float, slack_at}
-use Rattle.desk.proofs.Lines.{double}
+use mathlib.Core.Path.{◌≡◌}
+use Prim.Native.Nat.{◌-◌, ◌^◌, ◌≤◌}
+use Rattle.hyperparams.specs.Params.{float}
 use Rattle.desk.proofs.input.slack.Given as goal
 
 abbrev pub invariant-loop : goal.invariant-loop

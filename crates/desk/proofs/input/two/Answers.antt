@@ -1,7 +1,6 @@
 -- Two digits.
 use native.Mathlib.Omega.{arith}
 use Rattle.desk.specs.Desk.{two}
-use borrow.Author.Rules.{rules}
 use Rattle.desk.proofs.input.two.Goals as goal
 
 pub returns : goal.returns

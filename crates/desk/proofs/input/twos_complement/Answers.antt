@@ -8,7 +8,6 @@ use mir.Syntax.{w16}
 use mir.Val.{SFits, to_z}
 use mir.Facts.{to_z_pos, to_z-of_z}
 use Rattle.desk.proofs.Lines.{below_zero}
-use borrow.Author.Rules.{rules}
 use Rattle.desk.proofs.input.twos_complement.Goals as goal
 
 pub returns-then-n-lt32768 : goal.returns-then-n-lt32768

@@ -2,7 +2,6 @@
 use mathlib.Core.Path.{sym}
 use borrow.Author.Tests.{lt-ltb, le-ltb}
 use Rattle.desk.specs.Desk.{glyph}
-use borrow.Author.Rules.{rules}
 use Rattle.desk.proofs.output.glyph.Goals as goal
 
 pub returns-then-n-lt10 : goal.returns-then-n-lt10

@@ -1,6 +1,5 @@
-use Prim.Native.Nat.{◌-◌}
 use native.Mathlib.Omega.{arith}
-use Rattle.desk.proofs.Printing.{Laid, laid_start, laid_length, laid_step, laid_end}
+use Rattle.desk.proofs.Printing.{laid_start, laid_length, laid_step, laid_end}
 use Rattle.desk.proofs.output.put_frames.Goals as goal
 
 pub loop-i-init : goal.loop-i-init

@@ -1,7 +1,6 @@
 -- The lines of the frames passed are laid.
 use Prim.Native.Nat.{◌-◌}
-use native.Mathlib.Omega.{arith}
-use Rattle.desk.proofs.Printing.{Laid, laid_start, laid_length, laid_step, laid_end}
+use Rattle.desk.proofs.Printing.{Laid}
 use Rattle.desk.proofs.output.put_frames.Given as goal
 
 abbrev pub invariant-loop-i : goal.invariant-loop-i

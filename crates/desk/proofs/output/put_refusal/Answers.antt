@@ -7,7 +7,6 @@ use lib.ListN.{set, length-set}
 use Rattle.lists.specs.Words.{over}
 use Rattle.desk.specs.Desk.{hex2, refusal_line}
 use Rattle.desk.proofs.Printing.{two_sets, line_laid}
-use borrow.Author.Rules.{rules}
 use Rattle.desk.proofs.output.put_refusal.Goals as goal
 
 pub bounds-output-1 : goal.bounds-output-1
@@ -21,5 +20,5 @@ shape_of-output c = simp length-set (c.put_two.auto.output ∙ simp length-set)
 
 pub returns : goal.returns
 unfolding refusal_line hex2
-returns c =             ap (λ (z : List ℕ). set z 4 10) (c.put_two.ensures ∙ ap (λ (z : List ℕ). over z 2 (hex2 c.args.number)) (two_sets c.args.output.now 0 101 101 (omega arith)))
+returns c = ap (λ (z : List ℕ). set z 4 10) (c.put_two.ensures ∙ ap (λ (z : List ℕ). over z 2 (hex2 c.args.number)) (two_sets c.args.output.now 0 101 101 (omega arith)))
     ∙ line_laid c.args.output.now 0 2 4 (101 ∷ (101 ∷ [])) (hex2 c.args.number) 10 refl (omega arith) (omega arith)
