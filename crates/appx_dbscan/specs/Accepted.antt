@@ -39,17 +39,17 @@ module _ (p : Params) (ps : List ℤ) (labels kinds work : List ℕ) (v : ValidP
   fs = frames_of v.channels ps
 
   -- cluster numbers stay below the label for none
-  few_frames_lem : length fs ≤ none
+  few_frames : length fs ≤ none
   unfolding frames_of
-  few_frames_lem =
+  few_frames =
       let a = accepted p (length ps) (length labels) (length kinds) (length work) e in
-      let few : length ps / v.channels ≤ max_frames = subst (λ (w : ValidParams). length ps / w.channels ≤ max_frames) (sym a.settings) a.few_frames_lem in
+      let few : length ps / v.channels ≤ max_frames = subst (λ (w : ValidParams). length ps / w.channels ≤ max_frames) (sym a.settings) a.few_frames in
       rw (frames_length (length ps / v.channels) v.channels ps) (le_trans few (lit≤ tt))
 
   -- demand 3 with lists of any bound
   pub promise_any_list : (factor : ℕ) → Promise factor v fs (over labels 0 (transform_of (geometry_of factor v fs)).labels) (over kinds 0 (transform_of (geometry_of factor v fs)).kinds)
   promise_any_list factor =
-      promise_over (geometry_of factor v fs) (Nearer v fs) (FarReach v fs) (sound factor v fs (domain_of p ps (length labels) (length kinds) (length work) e c)) (unfold geometry_of in few_frames_lem)
+      promise_over (geometry_of factor v fs) (Nearer v fs) (FarReach v fs) (sound factor v fs (domain_of p ps (length labels) (length kinds) (length work) e c)) (unfold geometry_of in few_frames)
       labels kinds
 
   -- DEMAND 3 of every accepted run

@@ -12,7 +12,7 @@ module _ (g : Geometry) where
   -- a core frame "of the run": "Core frames are those of module 3"
   pub record CoreFrame (p : ℕ) : Type 0 where
     pub inside : p < g.frames
-    pub is_core_lem : T (core g p)
+    pub is_core : T (core g p)
 
   -- "A border frame is a non-core frame with a non-zero count in the tree of a listed core cell"; "a core cell is one that holds a core frame"
   pub record Border (q : ℕ) : Type 0 where
@@ -39,7 +39,7 @@ module _ (g : Geometry) (Near Far : ℕ → ℕ → Type 0) where
   -- "a core frame within that same reach", whose label q has
   pub record Reached (labels : List ℕ) (q : ℕ) : Type 0 where
     pub frame : ℕ
-    pub is_core_lem : CoreFrame g frame
+    pub is_core : CoreFrame g frame
     pub within_reach : Far q frame
     pub same_label : get_or labels q 0 ≡ get_or labels frame 0
 

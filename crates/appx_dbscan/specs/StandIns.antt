@@ -62,7 +62,7 @@ cores_in (Outcome.Labelled c m) = m
 cores_in (Outcome.Refused r) = 0
 
 core_frame : (g : Geometry) (p : ℕ) → T (ltb p g.frames) → T (core g p) → CoreFrame g p
-core_frame g p h c = record { inside = ltb→lt p g.frames h; is_core_lem = c }
+core_frame g p h c = record { inside = ltb→lt p g.frames h; is_core = c }
 
 module _ (v : ValidParams) (fs : List Frame) (low : ℕ → Bool) where
   abbrev far_test : ℕ → ℕ → Bool

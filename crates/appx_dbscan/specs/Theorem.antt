@@ -57,7 +57,7 @@ module _ (g : Geometry) (Near Far : ℕ → ℕ → Type 0) (S : Sound g Near Fa
   -- a core frame nearer than t gives a non-zero count in its cell's tree
   pub near_count : (q p : ℕ) → q < g.frames → CoreFrame g p → Near q p → T (nonzero (count g q p))
   near_count q p h c n = rw (count_path g S.lawful q p)
-      (any_in (reaches (g.box q) g.levels 0) p (core_members g p) (core_in_lem g p p c.inside c.is_core_lem (S.lawful.same_self 0 p))
+      (any_in (reaches (g.box q) g.levels 0) p (core_members g p) (core_in_lem g p p c.inside c.is_core (S.lawful.same_self 0 p))
       (near_path (g.box q) g.levels p (λ l k e. S.disjoint q l p h c.inside k e n) g.levels 0 (add-zero g.levels)))
 
   -- a non-zero count comes from a core frame of that cell within the far reach
@@ -66,7 +66,7 @@ module _ (g : Geometry) (Near Far : ℕ → ℕ → Type 0) (S : Sound g Near Fa
       let z = in_any (reaches (g.box q) g.levels 0) (core_members g i) (rw (count_path g S.lawful q i) at n) in
       let w = in_core g i z.0 z.1 in
       let far = far_path (g.box q) g.levels z.0 (λ l k e. S.covered q l z.0 h w.0 k e) (S.last q z.0 h w.0) in
-      (z.0, record { inside = w.0; is_core_lem = w.1 }, w.2, far g.levels 0 (add-zero g.levels) z.2)
+      (z.0, record { inside = w.0; is_core = w.1 }, w.2, far g.levels 0 (add-zero g.levels) z.2)
 
   -- ---- links and near steps
   -- a core frame is in the cell of its first frame
@@ -83,7 +83,7 @@ module _ (g : Geometry) (Near Far : ℕ → ℕ → Type 0) (S : Sound g Near Fa
       parts_linked g P Q
       (listed_turn g L Q P (rw (← listed_same g L Q p P c.inside (first_in g L p c.inside).1) (listed_turn g L p Q (rw (listed_same g L p q Q d.inside b) at l))))
       (or_one (touches g P Q) (touches g Q P)
-      (unfold touches in any_in (λ x. nonzero (count g x Q)) p (core_members g P) (core_in_lem g P p c.inside c.is_core_lem (in_first p c))
+      (unfold touches in any_in (λ x. nonzero (count g x Q)) p (core_members g P) (core_in_lem g P p c.inside c.is_core (in_first p c))
       (rw (count_same g L p q Q b) at (near_count p q c.inside d n))))
 
   -- ---- links and far steps
@@ -97,7 +97,7 @@ module _ (g : Geometry) (Near Far : ℕ → ℕ → Type 0) (S : Sound g Near Fa
       let z = in_any (λ p. nonzero (count g p d)) (core_members g c) t in
       let a = in_core g c z.0 z.1 in
       let w = far_count z.0 d a.0 z.2 in
-      (z.0, w.0, record { inside = a.0; is_core_lem = a.1 }, a.2, w.1, w.2, w.3)
+      (z.0, w.0, record { inside = a.0; is_core = a.1 }, a.2, w.1, w.2, w.3)
 
   link_step : (c d : ℕ) → T (linked g c d) → (x y : ℕ) × CoreFrame g x × T (same_cell g c x) × CoreFrame g y × T (same_cell g d y) × Far x y
   link_step c d l = elim (or_cases (touches g c d) (touches g d c) (linked_parts g c d l).1) [
@@ -131,10 +131,10 @@ module _ (g : Geometry) (Near Far : ℕ → ℕ → Type 0) (S : Sound g Near Fa
   -- ---- a frame is core, border or noise, and its label and kind say which
   -- a core frame's cell is a core cell
   home : (p : ℕ) → CoreFrame g p → In (first g p) (core_cells g)
-  home p c = core_first g S.lawful p c.inside c.is_core_lem
+  home p c = core_first g S.lawful p c.inside c.is_core
 
   not_both : (q : ℕ) → CoreFrame g q → T (not (core g q)) → ⊥
-  not_both q c n = T_not (core g q) n c.is_core_lem
+  not_both q c n = T_not (core g q) n c.is_core
 
   module _ (number : ℕ → ℕ) where
     -- the label of a border frame is that of a core frame x within the far reach
@@ -145,7 +145,7 @@ module _ (g : Geometry) (Near Far : ℕ → ℕ → Type 0) (S : Sound g Near Fa
 
     sort : (q : ℕ) → q < g.frames → Sort q
     sort q h = elim (T_or_not (core g q)) [
-      | inl c ↦ let z = core_label g number q c in a_core (record { inside = h; is_core_lem = c }) z.0 z.1
+      | inl c ↦ let z = core_label g number q c in a_core (record { inside = h; is_core = c }) z.0 z.1
       | inr n ↦ go n (touched g q) refl
     ]
       where
@@ -160,7 +160,7 @@ module _ (g : Geometry) (Near Far : ℕ → ℕ → Type 0) (S : Sound g Near Fa
     module _ (low : (c : ℕ) → In c (core_cells g) → number c < none) (apart : (c d : ℕ) → In c (core_cells g) → In d (core_cells g) → number c ≡ number d → Linked g c d)
         (labels kinds : List ℕ) (W : LabelledBy g number labels kinds) where
       at_core : (q : ℕ) → CoreFrame g q → get_or labels q 0 ≡ number (first g q)
-      at_core q c = W.at_label q c.inside ∙ (core_label g number q c.is_core_lem).0
+      at_core q c = W.at_label q c.inside ∙ (core_label g number q c.is_core).0
 
       far_frames : (p q : ℕ) → CoreFrame g p → CoreFrame g q → get_or labels p 0 ≡ get_or labels q 0 → Chain (CoreFrame g) Far p q
       far_frames p q a b e = far_chain (apart (first g p) (first g q) (home p a) (home q b) (sym (at_core p a) ∙ e ∙ at_core q b)) p q a (in_first p a) b (in_first q b)
@@ -168,7 +168,7 @@ module _ (g : Geometry) (Near Far : ℕ → ℕ → Type 0) (S : Sound g Near Fa
       border_reached : (q : ℕ) → Border g q → Reached g Near Far labels q
       border_reached q b = elim (sort q b.inside) [
         | a_core d e k ↦ absurd (not_both q d b.not_core)
-        | a_border b x c f e k ↦ record { frame = x; is_core_lem = c; within_reach = f; same_label = W.at_label q b.inside ∙ e ∙ sym (at_core x c) }
+        | a_border b x c f e k ↦ record { frame = x; is_core = c; within_reach = f; same_label = W.at_label q b.inside ∙ e ∙ sym (at_core x c) }
         | a_noise n e k ↦ absurd (n.no_border b)
       ]
 
@@ -268,4 +268,4 @@ module _ (g : Geometry) (Near Far : ℕ → ℕ → Type 0) (S : Sound g Near Fa
       let w = core_cell_frame g z.0 c.1 in
       let m = in_core g z.0 w.0 w.1 in
       let same : first g w.0 ≡ z.0 = sym (first_same g S.lawful z.0 w.0 f.0 m.2) ∙ f.1 in
-      (w.0, record { inside = m.0; is_core_lem = m.1 }, (transform_labelled g).at_label w.0 m.0 ∙ (core_label g (cluster_of g) w.0 m.1).0 ∙ ap (cluster_of g) same ∙ z.2)
+      (w.0, record { inside = m.0; is_core = m.1 }, (transform_labelled g).at_label w.0 m.0 ∙ (core_label g (cluster_of g) w.0 m.1).0 ∙ ap (cluster_of g) same ∙ z.2)

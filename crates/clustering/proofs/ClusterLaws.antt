@@ -83,7 +83,7 @@ module _ (g : Geometry) where
   -- the lowest cell of c's cluster is lower than each cell of d's
   pub record Lower (c d : ℕ) : Type 0 where
     pub lowest : ℕ
-    pub is_cell_lem : In lowest (core_cells g)
+    pub is_core_cell : In lowest (core_cells g)
     pub same_set : place lowest (clusters g) ≡ place c (clusters g)
     pub below : (f : ℕ) → In f (core_cells g) → place f (clusters g) ≡ place d (clusters g) → lowest < f
 
@@ -106,7 +106,7 @@ module _ (g : Geometry) where
         let m = head_in 0 c z.0 z.2 in
         record {
           lowest = head_or 0 z.0;
-          is_cell_lem = inside link cs z.0 z.1 (head_or 0 z.0) m;
+          is_core_cell = inside link cs z.0 z.1 (head_or 0 z.0) m;
           same_set = one_number link link_turn cs (head_or 0 z.0) c (joined link link_turn cs z.0 z.1 (head_or 0 z.0) c m z.2);
           below = λ f k e. z.3 f (in_sets link cs f k) e;
         }

@@ -47,7 +47,7 @@ ready_of p ps labels kinds work {v} e =
     record {
       settings = settings_in a;
       least = subst (λ (w : ValidParams). 2 ≤ w.min_points) (sym a.settings) a.two_points;
-      few = subst (λ (w : ValidParams). length ps / w.channels ≤ max_frames) (sym a.settings) a.few_frames_lem;
+      few = subst (λ (w : ValidParams). length ps / w.channels ≤ max_frames) (sym a.settings) a.few_frames;
       room = omega (arith, div-add-mod' (length ps) v.channels);
     }
 

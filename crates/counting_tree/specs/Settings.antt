@@ -157,4 +157,4 @@ settings_of_lem p h q some most =
 
 -- every accepted run
 pub settings_in : {p : Params} {v : ValidParams} {points labels kinds work : ℕ} → Accepted p v points labels kinds work → Settings v
-settings_in {p} a = subst Settings (sym a.settings) (settings_of_lem p a.good_tolerance_lem a.low_power a.some_channels a.few_channels)
+settings_in {p} a = subst Settings (sym a.settings) (settings_of_lem p a.tolerance_fits a.low_power a.some_channels a.few_channels)

@@ -109,12 +109,12 @@ neither false b e = (refl, e)
 pub record Accepted (p : Params) (v : ValidParams) (points labels kinds work : ℕ) : Type 0 where
   pub settings : v ≡ valid_of p
   pub two_points : 2 ≤ p.min_points
-  pub good_tolerance_lem : T (good_tolerance p.tolerance)
+  pub tolerance_fits : T (good_tolerance p.tolerance)
   pub low_power : slack_power p.slack ≤ max_power
   pub some_channels : 1 ≤ p.channels
   pub few_channels : p.channels ≤ 4
   pub whole_frames : points % p.channels ≡ 0
-  pub few_frames_lem : points / p.channels ≤ max_frames
+  pub few_frames : points / p.channels ≤ max_frames
   pub labels_fit : points / p.channels ≤ labels
   pub kinds_fit : points / p.channels ≤ kinds
   pub work_fits : work_words (points / p.channels) (slack_power p.slack) ≤ work
@@ -145,12 +145,12 @@ module _ (p : Params) (points labels kinds work : ℕ) where
       record {
         settings = cc (valid.1 f);
         two_points = leb-false p.min_points 1 (f 0);
-        good_tolerance_lem = subst T (sym (not-false (good_tolerance p.tolerance) (f 3))) tt;
+        tolerance_fits = subst T (sym (not-false (good_tolerance p.tolerance) (f 3))) tt;
         low_power = ltb-false max_power (slack_power p.slack) (f 4);
         some_channels = leb-true 1 p.channels channels.0;
         few_channels = leb-true p.channels 4 channels.1;
         whole_frames = eqb-true (points % p.channels) 0 (not-false (points % p.channels == 0) lengths.0);
-        few_frames_lem = ltb-false max_frames frames lengths.1;
+        few_frames = ltb-false max_frames frames lengths.1;
         labels_fit = ltb-false labels frames results.0;
         kinds_fit = ltb-false kinds frames results.1;
         work_fits = ltb-false work (work_words frames (slack_power p.slack)) (f 8);

@@ -4,3 +4,6 @@ use Rattle.core_cells.proofs.reaches.Goals as goal
 
 pub returns : goal.returns
 returns c = settled_is c.told_by-told.result c.in_default.not-Intersecting c.told_by-told.ensures.tells c.is_covered.ensures
+
+pub returns-in-Intersecting : goal.returns-in-Intersecting
+returns-in-Intersecting c = c.reaches_second.ensures

@@ -9,6 +9,9 @@ overflow_add-n c = omega (arith, slot c.requires)
 pub word-requires : goal.word-requires
 word-requires c = omega (arith, slot c.requires)
 
+pub tree_count-requires : goal.tree_count-requires
+tree_count-requires c = (c.requires.0, c.requires.1, c.requires.2, c.requires.3, omega (arith, c.word.ensures, c.if-word-gt1.true))
+
 pub returns-then-word-gt1 : goal.returns-then-word-gt1
 returns-then-word-gt1 c = told_count c.requires c.tree_count.ensures
 
