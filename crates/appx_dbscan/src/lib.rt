@@ -61,7 +61,7 @@ fn grow_trees(points: &[i16], v: ValidParams, n: usize, k: usize, work: &mut [Wo
 fn fill_work(points: &[i16], v: ValidParams, n: usize, work: &mut [Word]) -> usize
     requires { Ready points.now v n × (work_words n v.s ≤ length work.old) × Clear work.old (10 * n) (14 * n) }
     ensures value { result ≡ length (clusters (geometry_at v n points.now)) }
-    ensures by_index { (few : ℕ) × (work.new ≡ filled (geometry_at v n points.now) n few work.old) }
+    ensures work_after { (few : ℕ) × (work.new ≡ filled (geometry_at v n points.now) n few work.old) }
 {
     let k = cells_grid::populate(points, v, n, work);
     cells_grid::label_points(points, v, n, k, work);

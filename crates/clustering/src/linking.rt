@@ -102,8 +102,8 @@ fn by_turns(
     to: usize,
 ) -> bool
     requires ready { Ready points.now v n × Grown (geometry_at v n points.now) k work.now }
-    requires cell_lt_k { (a.cell < k) × (a.root ≡ root_unless a.first v n points.now a.cell) }
-    requires cell_lt_k_2 { (b.cell < k) × (b.root ≡ root_unless b.first v n points.now b.cell) }
+    requires first_cell { (a.cell < k) × (a.root ≡ root_unless a.first v n points.now a.cell) }
+    requires second_cell { (b.cell < k) × (b.root ≡ root_unless b.first v n points.now b.cell) }
     ensures { result ≡ any (turn_at (geometry_at v n points.now) a.cell b.cell) (rest to from) }
 {
     let mut j = from;

@@ -238,7 +238,7 @@ fn meet_cells(
 )
     requires ready { Ready points.now v n × Grown (geometry_at v n points.now) k work.old × (c < k) × (d < k) }
     requires n_in_bounds { (7 * n ≤ length work.old) × Falling (part work.old (6 * n) k) }
-    requires t { T (pair_at (geometry_at v n points.now) c d) }
+    requires pair { T (pair_at (geometry_at v n points.now) c d) }
     ensures { let g = geometry_at v n points.now in work.new ≡ over work.old (6 * n)
         (meet_all by_own_leaders (link_at g) (one_pair g c d) (part work.old (6 * n) k)) }
 {

@@ -1,4 +1,4 @@
-// Words of one lent slice: read, copied, filled, made 0. Definitions and laws on lists, on groups, and on words in a slice: in specs/.
+// Words of one lent slice: read, copied, filled, made 0. Definitions and laws on lists, on groups, and on words in a slice: in specs/ and proofs/.
 #![tactic(auto)]
 
 ghost use Rattle.std.specs.Prelude.{◌≡◌, ◌⊎◌, ◌+◌, ◌<◌, ◌≤◌, length, get_or, replicate};
@@ -27,8 +27,8 @@ pub fn word(work: &[Word], at: usize) -> usize
 
 // Copies the `m` words from `from` on to `to`.
 pub fn copy_words(work: &mut [Word], from: usize, to: usize, m: usize)
-    requires fact { (to ≤ from) ⊎ (from + m ≤ to) }
-    requires m_in_bounds { (from + m ≤ length work.old) × (to + m ≤ length work.old) }
+    requires apart { (to ≤ from) ⊎ (from + m ≤ to) }
+    requires inside { (from + m ≤ length work.old) × (to + m ≤ length work.old) }
     ensures { work.new ≡ over work.old to (part work.old from m) }
 {
     let mut i = 0;

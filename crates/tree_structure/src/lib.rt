@@ -57,7 +57,7 @@ fn spread(
 ) -> usize
     requires ready { Ready points.now v n × (pivot < n) × (level ≤ levels v.s) × Below n (part work.old from m) × (side ≡ side_at v.channels v.tolerance level) }
     requires m_bound { (from + m ≤ scratch) × (scratch + m ≤ length work.old) }
-    ensures fact { let f = (geometry_at v n points.now).same level pivot in (result ≤ m) × (result ≡ length (keep f (part work.old from m))) }
+    ensures kept { let f = (geometry_at v n points.now).same level pivot in (result ≤ m) × (result ≡ length (keep f (part work.old from m))) }
     ensures work_after { let f = (geometry_at v n points.now).same level pivot in let xs = part work.old from m in work.new ≡ over (over work.old from (keep f xs)) scratch (lose f xs) }
 {
     let at = counting_tree::points::indexes_at(points, v, n, side, pivot);
@@ -96,7 +96,7 @@ fn partition(
 ) -> usize
     requires ready { Ready points.now v n × (pivot < n) × (level ≤ levels v.s) × Below n (part work.old from m) × (side ≡ side_at v.channels v.tolerance level) }
     requires m_bound { (from + m ≤ scratch) × (scratch + m ≤ length work.old) × Clear work.old scratch m }
-    ensures fact { let f = (geometry_at v n points.now).same level pivot in (result ≤ m) × (result ≡ length (keep f (part work.old from m))) }
+    ensures kept { let f = (geometry_at v n points.now).same level pivot in (result ≤ m) × (result ≡ length (keep f (part work.old from m))) }
     ensures work_after { let f = (geometry_at v n points.now).same level pivot in let xs = part work.old from m in work.new ≡ over work.old from (keep f xs ++ lose f xs) }
 {
     if m == 0 {
@@ -234,7 +234,7 @@ fn count_node(
     side: f64,
 ) -> Counted
     requires ready { Ready points.now v n × (q < n) × (level + left ≤ levels v.s) × (side ≡ side_at v.channels v.tolerance level) }
-    requires by_index { (xs : List ℕ) × TreeAt (geometry_at v n points.now).same n work.now at left level xs }
+    requires tree { (xs : List ℕ) × TreeAt (geometry_at v n points.now).same n work.now at left level xs }
     ensures { let g = geometry_at v n points.now in (xs : List ℕ) → TreeAt g.same n work.now at left level xs → result ≡ told_of (counted g.same (g.box q) left level xs) }
 {
     let count = lists::word(work, at);
@@ -278,7 +278,7 @@ fn count_list(
     side: f64,
 ) -> Counted
     requires ready { Ready points.now v n × (q < n) × (level + left ≤ levels v.s) × (side ≡ side_at v.channels v.tolerance level) }
-    requires by_index { (gs : List (List ℕ)) × TreesAt (geometry_at v n points.now).same n work.now at end left level gs }
+    requires trees { (gs : List (List ℕ)) × TreesAt (geometry_at v n points.now).same n work.now at end left level gs }
     ensures { let g = geometry_at v n points.now in (gs : List (List ℕ)) → TreesAt g.same n work.now at end left level gs → result ≡ told_of (first_of (counted g.same (g.box q) left level) gs) }
 {
     if at == end {
@@ -314,7 +314,7 @@ pub fn approximate_range_counting(
     at: usize,
 ) -> Counted
     requires ready { Ready points.now v n × (q < n) }
-    requires by_index { (xs : List ℕ) × TreeAt (geometry_at v n points.now).same n work.now at (geometry_at v n points.now).levels 0 xs }
+    requires tree { (xs : List ℕ) × TreeAt (geometry_at v n points.now).same n work.now at (geometry_at v n points.now).levels 0 xs }
     ensures { let g = geometry_at v n points.now in (xs : List ℕ) → TreeAt g.same n work.now at g.levels 0 xs → result ≡ told_of (counted g.same (g.box q) g.levels 0 xs) }
 {
     let side = counting_tree::grid::base_side(v.tolerance, v.channels);

@@ -16,4 +16,4 @@ pub label-requires : goal.label-requires
 label-requires c = (c.requires.0, grown₃ c.requires.0 c.args.work.now c.requires.1 c.populate-k.ensures.value c.populate-k.ensures.work_after c.label_points.ensures c.grow_trees.ensures.0 c.grow_trees.ensures.1, search rules, clear₃ c.requires.0 c.args.work.now c.requires.1 c.populate-k.ensures.value c.populate-k.ensures.work_after c.label_points.ensures c.grow_trees.ensures.0 c.grow_trees.ensures.1 c.requires.2)
 
 pub returns : goal.returns
-returns c = record { value = c.label.ensures.value; by_index = (c.grow_trees.ensures.0, filled₄ c.requires.0 c.args.work.now c.requires.1 c.populate-k.ensures.value c.populate-k.ensures.work_after c.label_points.ensures c.grow_trees.ensures.0 c.grow_trees.ensures.1 c.label.ensures.work_after) }
+returns c = record { value = c.label.ensures.value; work_after = (c.grow_trees.ensures.0, filled₄ c.requires.0 c.args.work.now c.requires.1 c.populate-k.ensures.value c.populate-k.ensures.work_after c.label_points.ensures c.grow_trees.ensures.0 c.grow_trees.ensures.1 c.label.ensures.work_after) }

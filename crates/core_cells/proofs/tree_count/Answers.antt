@@ -20,7 +20,7 @@ pub overflow_add-n-2 : goal.overflow_add-n-2
 overflow_add-n-2 c = omega (arith, c.requires.0.few, begins_low c.requires.0 c.requires.1 c.requires.3 c.word-t.ensures c.requires.4)
 
 pub approximate_range_counting-requires : goal.approximate_range_counting-requires
-approximate_range_counting-requires c = record { ready = (c.requires.0, c.requires.2); by_index = (_, some_tree c.requires.0 c.requires.1 c.requires.3 c.word-t.ensures c.requires.4) }
+approximate_range_counting-requires c = record { ready = (c.requires.0, c.requires.2); tree = (_, some_tree c.requires.0 c.requires.1 c.requires.3 c.word-t.ensures c.requires.4) }
 
 pub returns : goal.returns
 unfolding node

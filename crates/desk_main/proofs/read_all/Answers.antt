@@ -7,8 +7,8 @@ use borrow.Rule.Slice.PartMut.{put_mid, post_of}
 use Rattle.desk_main.proofs.read_all.Goals as goal
 
 -- a read at place a of xs that gave k bytes, ys being what it left there
-take-put_mid_more : (a room k : ℕ) (xs ys : List ℕ) → a ≤ length xs → k ≤ length ys → take (a + k) (put_mid a room xs ys) ≡ take a xs ++ take k ys
-take-put_mid_more a room k xs ys within fits =
+take_put_mid_more : (a room k : ℕ) (xs ys : List ℕ) → a ≤ length xs → k ≤ length ys → take (a + k) (put_mid a room xs ys) ≡ take a xs ++ take k ys
+take_put_mid_more a room k xs ys within fits =
     let after = post_of a room xs in
     take-add a k (put_mid a room xs ys)
     ∙ ap (λ l. l ++ take k (drop a (put_mid a room xs ys))) (take-put_mid_below a room xs ys a (le_refl a) within)
@@ -21,6 +21,6 @@ loop-n-preserved g c =
     let fits : more ≤ length c.read_some-more.new.room = omega arith in (
       search rules,
       search rules,
-      subst (Consumes _ _) (sym (take-put_mid_more c.loop-n.n _ more c.loop-n.buffer c.read_some-more.new.room c.loop-n.invariant.1 fits))
+      subst (Consumes _ _) (sym (take_put_mid_more c.loop-n.n _ more c.loop-n.buffer c.read_some-more.new.room c.loop-n.invariant.1 fits))
           (Consumes-trans _ _ _ _ _ c.loop-n.invariant.2 (c.read_some-more.ensures.bytes fits)),
     )

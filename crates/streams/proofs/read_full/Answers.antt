@@ -7,8 +7,8 @@ use borrow.Rule.Slice.PartMut.{put_mid, post_of}
 use Rattle.streams.proofs.read_full.Goals as goal
 
 -- a read at place a of xs that gave k bytes, ys being what it left there
-take-put_mid_more : (a room k : ℕ) (xs ys : List ℕ) → a ≤ length xs → k ≤ length ys → take (a + k) (put_mid a room xs ys) ≡ take a xs ++ take k ys
-take-put_mid_more a room k xs ys within fits =
+take_put_mid_more : (a room k : ℕ) (xs ys : List ℕ) → a ≤ length xs → k ≤ length ys → take (a + k) (put_mid a room xs ys) ≡ take a xs ++ take k ys
+take_put_mid_more a room k xs ys within fits =
     let after = post_of a room xs in
     take-add a k (put_mid a room xs ys)
     ∙ ap (λ l. l ++ take k (drop a (put_mid a room xs ys))) (take-put_mid_below a room xs ys a (le_refl a) within)
@@ -20,6 +20,6 @@ loop-n-preserved g c =
     let read = c.in_ok-more.ensures in (
       search rules,
       search rules,
-      subst (Consumes _ _) (sym (take-put_mid_more c.loop-n.n _ c.in_ok-more.more c.loop-n.buffer c.read.new.buf c.loop-n.invariant.1 read.bound.0))
+      subst (Consumes _ _) (sym (take_put_mid_more c.loop-n.n _ c.in_ok-more.more c.loop-n.buffer c.read.new.buf c.loop-n.invariant.1 read.bound.0))
           (Consumes-trans _ _ _ _ _ c.loop-n.invariant.2 read.bytes.0),
     )

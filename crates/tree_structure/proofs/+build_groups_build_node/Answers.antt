@@ -15,12 +15,12 @@ build_groups-partition-kept-requires-clause-ready t c =
 pub build_groups-build_node-next-requires : goal.build_groups-build_node-next-requires
 build_groups-build_node-next-requires t c =
     let e = c.partition-kept.ensures in
-    (omega (arith, c.decreases), (c.requires.ready, node_can c.loop-rest.invariant.can c.loop-rest-test.true c.wide-head.ensures e.fact.1 e.work_after))
+    (omega (arith, c.decreases), (c.requires.ready, node_can c.loop-rest.invariant.can c.loop-rest-test.true c.wide-head.ensures e.kept.1 e.work_after))
 
 pub build_groups-loop-rest-preserved : goal.build_groups-loop-rest-preserved
 build_groups-loop-rest-preserved t c =
     let e = c.partition-kept.ensures in
-    building_step c.loop-rest.invariant c.loop-rest-test.true c.wide-head.ensures e.fact.1 e.work_after c.build_node-next.ensures
+    building_step c.loop-rest.invariant c.loop-rest-test.true c.wide-head.ensures e.kept.1 e.work_after c.build_node-next.ensures
 
 pub build_groups-returns : goal.build_groups-returns
 build_groups-returns t c = building_end c.loop-rest.invariant c.loop-rest-test.false

@@ -12,20 +12,20 @@ count_list-returns-then-at-end t c = λ gs u. told _ [] _ refl refl (ap (first_o
 
 pub count_list-count_node-r-requires : goal.count_list-count_node-r-requires
 count_list-count_node-r-requires t c =
-    let p = c.requires.by_index in
+    let p = c.requires.trees in
     let h = c.if-at-end.false in
     let z = split p.0 p.1 h _ refl in
     (omega (arith, c.decreases, p.1.ends, h), (c.requires.ready, (z.first, z.tree)))
 
 pub count_list-past-requires : goal.count_list-past-requires
 count_list-past-requires t c =
-    let p = c.requires.by_index in
+    let p = c.requires.trees in
     let z = split p.0 p.1 c.if-at-end.false _ refl in
     (omega (arith, tree_room z.tree), tree_past z.tree)
 
 pub count_list-count_list-requires : goal.count_list-count_list-requires
 count_list-count_list-requires t c =
-    let p = c.requires.by_index in
+    let p = c.requires.trees in
     let h = c.if-at-end.false in
     let z = split p.0 p.1 h c.past.result c.past.ensures in
     (omega (arith, c.decreases, p.1.ends, h, tree_ahead z.tree c.past.result c.past.ensures), (c.requires.ready, (z.others, z.trees)))
@@ -46,32 +46,32 @@ count_list-returns-else-count-eq0 t c = λ gs u.
 
 -- ---- a node
 pub count_node-word-count-requires : goal.count_node-word-count-requires
-count_node-word-count-requires t c = omega (arith, tree_room c.requires.by_index.1)
+count_node-word-count-requires t c = omega (arith, tree_room c.requires.tree.1)
 
 pub count_node-overflow_add-at : goal.count_node-overflow_add-at
-count_node-overflow_add-at t c = omega (arith, tree_room c.requires.by_index.1)
+count_node-overflow_add-at t c = omega (arith, tree_room c.requires.tree.1)
 
 pub count_node-word-first-requires : goal.count_node-word-first-requires
-count_node-word-first-requires t c = omega (arith, tree_room c.requires.by_index.1)
+count_node-word-first-requires t c = omega (arith, tree_room c.requires.tree.1)
 
 pub count_node-classify-requires : goal.count_node-classify-requires
 count_node-classify-requires t c =
     let p = c.requires.ready in
-    (p.0, record { level = c.args.level; depth = omega (arith, p.2); is = p.3 }, p.1, omega (arith, tree_below c.requires.by_index.1, c.word-first.ensures))
+    (p.0, record { level = c.args.level; depth = omega (arith, p.2); is = p.3 }, p.1, omega (arith, tree_below c.requires.tree.1, c.word-first.ensures))
 
 pub count_node-overflow_add-at-else-left-eq0 : goal.count_node-overflow_add-at-else-left-eq0
-count_node-overflow_add-at-else-left-eq0 t c = omega (arith, tree_room c.requires.by_index.1)
+count_node-overflow_add-at-else-left-eq0 t c = omega (arith, tree_room c.requires.tree.1)
 
 pub count_node-past-requires : goal.count_node-past-requires
 count_node-past-requires t c =
-    let u = c.requires.by_index.1 in
+    let u = c.requires.tree.1 in
     (omega (arith, tree_room u), tree_past u)
 
 pub count_node-count_list-requires : goal.count_node-count_list-requires
 count_node-count_list-requires t c =
     let p = c.requires.ready in
     let h = c.if-left-eq0.false in
-    (omega (arith, c.decreases, c.past.type_inv, h), ((p.0, p.1, omega (arith, p.2, h), next_side _ _ _ _ _ p.3 c.half_side.ensures), (_, tree_children c.requires.by_index.1 c.past.result c.past.ensures h)))
+    (omega (arith, c.decreases, c.past.type_inv, h), ((p.0, p.1, omega (arith, p.2, h), next_side _ _ _ _ _ p.3 c.half_side.ensures), (_, tree_children c.requires.tree.1 c.past.result c.past.ensures h)))
 
 pub count_node-returns-in-Disjoint : goal.count_node-returns-in-Disjoint
 count_node-returns-in-Disjoint t c = λ xs u.

@@ -59,8 +59,8 @@ loop-i-preserved c =
     let e = box_same p.0 c.args.pivot p.1 c.frame_at-counts.result c.frame_at-counts.ensures c.args.level c.args.side p.4 c.box_of-place.result c.box_of-place.ensures c.indexes_at-at.result c.indexes_at-at.ensures c.wide.result c.shares_box.result c.shares_box.ensures in
     spread_lose c.loop-i.invariant c.loop-i-test.true _ refl c.wide.ensures e c.if-shares_box.false
 
-pub returns-clause-fact : goal.returns-clause-fact
-returns-clause-fact c =
+pub returns-clause-kept : goal.returns-clause-kept
+returns-clause-kept c =
     let q = c.loop-i.invariant in
     let e = le_antisymm q.high c.loop-i-test.false in
     rw (← e) (omega (arith, spread_sum q), q.is_kept)

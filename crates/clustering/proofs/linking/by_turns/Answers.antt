@@ -5,13 +5,13 @@ pub loop-j-init : goal.loop-j-init
 loop-j-init c = turns_start _ _ _ _ _
 
 pub asks-requires : goal.asks-requires
-asks-requires c = (c.requires.ready.0, c.requires.ready.1, c.requires.cell_lt_k.0, c.requires.cell_lt_k_2.0, c.requires.cell_lt_k_2.1)
+asks-requires c = (c.requires.ready.0, c.requires.ready.1, c.requires.first_cell.0, c.requires.second_cell.0, c.requires.second_cell.1)
 
 pub returns-then-asks : goal.returns-then-asks
 returns-then-asks c = turn_first c.loop-j.invariant c.loop-j-test.true c.asks.ensures c.if-asks.true
 
 pub asks-requires-in-loop-j : goal.asks-requires-in-loop-j
-asks-requires-in-loop-j c = (c.requires.ready.0, c.requires.ready.1, c.requires.cell_lt_k_2.0, c.requires.cell_lt_k.0, c.requires.cell_lt_k.1)
+asks-requires-in-loop-j c = (c.requires.ready.0, c.requires.ready.1, c.requires.second_cell.0, c.requires.first_cell.0, c.requires.first_cell.1)
 
 pub returns-then-asks-2 : goal.returns-then-asks-2
 returns-then-asks-2 c = turn_second c.loop-j.invariant c.loop-j-test.true c.asks.ensures c.if-asks.false c.asks-in-loop-j.ensures c.if-asks-2.true

@@ -10,7 +10,7 @@ returns-then-apart c = link_none c.requires.0 c.requires.2 c.requires.3 (c.apart
 pub by_turns-requires : goal.by_turns-requires
 by_turns-requires c =
     let z = can_turn c.requires.0 c.requires.1 c.requires.2 c.requires.3 c.target_of-a.ensures.cell c.target_of-a.ensures.root c.target_of-b.ensures.cell c.target_of-b.ensures.root in
-    record { ready = z.0; cell_lt_k = z.1.0; cell_lt_k_2 = z.1.1 }
+    record { ready = z.0; first_cell = z.1.0; second_cell = z.1.1 }
 
 pub returns-then-by_turns : goal.returns-then-by_turns
 returns-then-by_turns c = link_early _ c.target_of-a.ensures.cell c.target_of-b.ensures.cell c.by_turns.ensures c.if-by_turns.true
@@ -27,7 +27,7 @@ returns-then-most-le-TURNS c = link_few _ c.target_of-a.ensures.cell c.target_of
 pub by_turns-requires-in-Intersecting : goal.by_turns-requires-in-Intersecting
 by_turns-requires-in-Intersecting c =
     let z = can_turn c.requires.0 c.requires.1 c.requires.2 c.requires.3 c.target_of-a.ensures.cell c.target_of-a.ensures.root c.target_of-b.ensures.cell c.target_of-b.ensures.root in
-    record { ready = z.0; cell_lt_k = z.1.0; cell_lt_k_2 = z.1.1 }
+    record { ready = z.0; first_cell = z.1.0; second_cell = z.1.1 }
 
 pub returns-in-Disjoint : goal.returns-in-Disjoint
 returns-in-Disjoint c = link_none c.requires.0 c.requires.2 c.requires.3 (c.in-Disjoint.ensures.apart refl)

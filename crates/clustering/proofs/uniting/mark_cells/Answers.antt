@@ -10,7 +10,7 @@ flatten-requires c = can_flatten c.args.work.now _ _ c.requires.0 c.requires.2 c
 pub copy_words-requires : goal.copy_words-requires
 copy_words-requires c =
     let l = size₁ c.args.work.now _ _ c.requires.0 c.requires.2 c.requires.3 c.requires.4 c.flatten.ensures in
-    record { fact = inr (omega (arith, c.requires.0)); m_in_bounds = (omega (arith, c.requires.0, c.requires.2, l), omega (arith, c.requires.0, c.requires.2, l)) }
+    record { apart = inr (omega (arith, c.requires.0)); inside = (omega (arith, c.requires.0, c.requires.2, l), omega (arith, c.requires.0, c.requires.2, l)) }
 
 pub write_runs-requires : goal.write_runs-requires
 write_runs-requires c = can_write c.args.work.now _ _ c.requires.0 c.requires.2 c.requires.3 c.requires.4 c.flatten.ensures c.copy_words.ensures c.requires.1

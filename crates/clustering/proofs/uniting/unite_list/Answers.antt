@@ -14,7 +14,7 @@ word-d-requires c = omega (arith, c.loop-j.invariant.few, c.loop-j.invariant.lea
 pub meet_cells-requires : goal.meet_cells-requires
 meet_cells-requires c =
     let e = next_each c.loop-j.invariant c.loop-j-test.true c.word-d.ensures in
-    record { ready = (c.requires.ready.0, c.loop-j.invariant.leading.grown, c.requires.ready.2, e.0); n_in_bounds = (omega (arith, c.loop-j.invariant.leading.room, c.loop-j.invariant.leading.size), c.loop-j.invariant.leading.falling); t = e.1 }
+    record { ready = (c.requires.ready.0, c.loop-j.invariant.leading.grown, c.requires.ready.2, e.0); n_in_bounds = (omega (arith, c.loop-j.invariant.leading.room, c.loop-j.invariant.leading.size), c.loop-j.invariant.leading.falling); pair = e.1 }
 
 pub loop-j-preserved : goal.loop-j-preserved
 loop-j-preserved c = listing_on c.loop-j.invariant c.loop-j-test.true c.word-d.ensures c.meet_cells.ensures
