@@ -3,6 +3,7 @@ use lib.Ieee.{Float, binary64, eq, div, of_int, of_bits, in_float}
 use Rattle.hyperparams.specs.Params.{float, slack_at, slack_from, slack_power}
 use Rattle.hyperparams.proofs.slack_power.Goals as goal
 
+-- one step of `slack_from`
 step : (x : Float) (s power : ℕ) (b : Bool) → s < 11 → power ≡ 2 ^ s → eq x (div binary64 (float 1) (float power)) ≡ b → slack_from (11 - s) s x ≡ cond b s (slack_from (11 - (s + 1)) (s + 1) x)
 unfolding slack_at
 step x s power b h p e =

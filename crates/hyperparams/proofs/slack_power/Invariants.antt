@@ -8,5 +8,3 @@ invariant-loop-s l = (l.s ≤ 11) × (l.power ≡ 2 ^ l.s) × (slack_from (11 - 
 
 abbrev pub decreases-loop-s : goal.decreases-loop-s
 decreases-loop-s l = 11 - l.s
-
--- one step of `slack_from`

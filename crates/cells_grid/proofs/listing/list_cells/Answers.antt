@@ -22,8 +22,6 @@ first_row-first-requires c = (c.requires.0, first_low c.requires.0 c.requires.1 
 pub overflow_mul-n : goal.overflow_mul-n
 overflow_mul-n c = search rules
 
--- @After-slice-known = c
-
 pub list_rows-requires : goal.list_rows-requires
 list_rows-requires c =
     let no_mark : (x : ℕ) → get_or c.args.work.now x 0 ≡ 65536 → ⊥ = λ x h. omega (arith, h, c.slice_known-1.given x) in
@@ -31,8 +29,6 @@ list_rows-requires c =
 
 pub shape_of-work : goal.shape_of-work
 shape_of-work c = search rules
-
--- @After-slice-known = c
 
 pub returns : goal.returns
 returns c =

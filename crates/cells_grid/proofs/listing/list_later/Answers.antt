@@ -26,8 +26,6 @@ own_row-start-requires c = (c.requires.ready.0, first_low c.requires.ready.0 c.r
 pub overflow_add-c : goal.overflow_add-c
 overflow_add-c c = search rules
 
--- @After-own-row = c
-
 pub list_rows-requires : goal.list_rows-requires
 list_rows-requires c =
     let own_is : c.own_row-start.result ≡ own_row (reach_of c.args.v) c.args.v c.args.n c.args.points.now c.word-i.result = c.own_row-start.ensures.value ∙ ap (λ (z : ℕ). own_block z (drop 1 c.first_row-first.result) (drop 1 (frame_at (reach_of c.args.v) c.args.v c.args.n c.args.points.now c.word-i.result))) c.width.ensures
@@ -36,8 +34,6 @@ list_rows-requires c =
 
 pub shape_of-work : goal.shape_of-work
 shape_of-work c = search rules
-
--- @After-own-row = c
 
 pub returns : goal.returns
 returns c =

@@ -54,8 +54,7 @@ list_stretch-more-requires c =
       low = c.bucket.ensures.upper_bound;
       found = c.stretch_at-s.ensures;
     } in
-    let Q = the_row in
-    record { ready = c.requires.ready; arranged = (row_arranged Q c.loop-to.invariant, row_sorted Q c.loop-to.invariant, omega (arith, c.requires.arranged.2, row_length Q c.loop-to.invariant), c.requires.arranged.3); end_in_bounds = (c.loop-to.invariant.high, row_room Q c.loop-to.invariant); marked_runs = row_runs Q c.loop-to.invariant }
+    record { ready = c.requires.ready; arranged = (row_arranged the_row c.loop-to.invariant, row_sorted the_row c.loop-to.invariant, omega (arith, c.requires.arranged.2, row_length the_row c.loop-to.invariant), c.requires.arranged.3); end_in_bounds = (c.loop-to.invariant.high, row_room the_row c.loop-to.invariant); marked_runs = row_runs the_row c.loop-to.invariant }
 
 pub loop-to-smaller : goal.loop-to-smaller
 loop-to-smaller c = omega (arith, c.loop-to-test.true)

@@ -39,9 +39,7 @@ pub list_row-m-requires : goal.list_row-m-requires
 list_row-m-requires c =
     let the_rows : Rows (reach_of c.args.v) c.args.v c.args.n c.args.points.now c.args.i c.args.first = record { ready = c.requires.ready.0; below = c.requires.ready.1; begin = c.requires.ready.2; small = c.requires.ready.3 } in
     let asked : Asked c.args.v c.args.n c.args.points.now c.args.i c.args.k c.args.after c.args.start c.args.marks c.args.mark c.args.work.now = record { ready = c.requires.ready.0; arranged = c.requires.arranged.0; sorted = c.requires.arranged.1; fit = c.requires.arranged.2; apart = c.requires.arranged.3; low = c.requires.k_nonzero.1; room = c.requires.k_nonzero.2; runs = c.requires.marked_runs } in
-    let R = the_rows in
-    let S = asked in
-    record { ready = c.requires.ready; arranged = (gathering_arranged S c.loop-r.invariant, gathering_sorted S c.loop-r.invariant, omega (arith, c.requires.arranged.2, gathering_length S c.loop-r.invariant), c.requires.arranged.3); k_nonzero = (c.requires.k_nonzero.0, rows_hash R c.width-w.ensures c.row_hashes-hashes.ensures.value c.loop-r.r (omega (arith, c.loop-r-test.true, c.row_count-rows.ensures)), ap (λ (z : ℕ). get_or c.args.first 0 0 / z) c.width-w.ensures, gathering_room S c.loop-r.invariant (omega (arith, c.loop-r-test.true, c.row_count-rows.ensures))); marked_runs = gathering_runs S c.loop-r.invariant }
+    record { ready = c.requires.ready; arranged = (gathering_arranged asked c.loop-r.invariant, gathering_sorted asked c.loop-r.invariant, omega (arith, c.requires.arranged.2, gathering_length asked c.loop-r.invariant), c.requires.arranged.3); k_nonzero = (c.requires.k_nonzero.0, rows_hash the_rows c.width-w.ensures c.row_hashes-hashes.ensures.value c.loop-r.r (omega (arith, c.loop-r-test.true, c.row_count-rows.ensures)), ap (λ (z : ℕ). get_or c.args.first 0 0 / z) c.width-w.ensures, gathering_room asked c.loop-r.invariant (omega (arith, c.loop-r-test.true, c.row_count-rows.ensures))); marked_runs = gathering_runs asked c.loop-r.invariant }
 
 pub loop-r-preserved : goal.loop-r-preserved
 loop-r-preserved c =

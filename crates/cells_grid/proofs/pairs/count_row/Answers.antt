@@ -41,9 +41,8 @@ count_stretch-sum-requires c =
       stretch = c.stretch_at-s.ensures;
       room = c.requires.room;
     } in
-    let Q = the_row in
     let I = c.loop-to.invariant in
-    record { laid = (row_laid Q I, c.requires.laid.1, c.requires.laid.2); from_le_to = row_fits Q I; room = row_room Q I }
+    record { laid = (row_laid the_row I, c.requires.laid.1, c.requires.laid.2); from_le_to = row_fits the_row I; room = row_room the_row I }
 
 pub overflow_add-sum : goal.overflow_add-sum
 overflow_add-sum c =
