@@ -3,7 +3,6 @@ use Rattle.std.proofs.Common.{◌≡◌, ℕ, zero, suc, ◌+◌, ◌-◌, ◌*�
 use borrow.Author.Tests.{lt-leb}
 use lib.Ieee.{Float, nan, inf, fin, binary64, up, down, odd, fits, of_bits, of_fields, to_bits, is_nan, nan_bits, ne, eq}
 use lib.Ieee.Bits.{of_bits-to_bits, nan_bits_above}
-use lib.Ieee.Compare.{differs_from_itself}
 use lib.Ieee.Exact.{HasValue, odd_sign}
 use lib.Ieee.Fits.{down_pos, round-fits}
 use Rattle.ieee754.specs.Root.{root}
@@ -31,9 +30,11 @@ pub high_field : (b : ℕ) → b < 2047 * 2 ^ 52 → (b / 2 ^ 52 ≡ 0 → ⊥) 
 high_field b h n = below_top b (omega arith) ∙ normal (b / 2 ^ 52) (b % 2 ^ 52) (omega arith) (omega arith)
 
 -- ---- NaN
-pub nan_root : (x : Float) → ne x x ≡ true → x ≡ root x
-unfolding root
-nan_root x e = subst (λ (y : Float). y ≡ root y) (sym (differs_from_itself x (subst T (sym e) tt))) refl
+pub nan_root : (x : Float) → is_nan x ≡ true → x ≡ root x
+unfolding is_nan root
+nan_root nan e = refl
+nan_root (inf s) e = absurd (true≢false (sym e))
+nan_root (fin s m d) e = absurd (true≢false (sym e))
 
 pub no_nan : (x : Float) → ne x x ≡ false → T (not (is_nan x))
 unfolding ne eq is_nan

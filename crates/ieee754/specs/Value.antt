@@ -3,6 +3,7 @@
 use Rattle.std.specs.Prelude.{◌≡◌, ℕ, ◌+◌, ◌*◌, ◌/◌, ◌^◌, ◌<◌, ◌≤◌, Bool, false, refl, Float}
 use Rattle.std.proofs.Common.{sym, ap, ◌∙◌, subst, le_of_eq, mul-le-mul_right, mul-div_cancel, le_of_mul-le-mul_right, arith, lit<, lit≤, pow_pos}
 use Rattle.std.proofs.Math.Nat.{lt_of_le_of_lt}
+use Rattle.std.proofs.Props.{props}
 use Rattle.std.specs.Float.{nan, inf, fin, binary64}
 use Rattle.std.specs.Float.Ieee.{up, down, round, units}
 use Rattle.std.specs.Float.Ieee.Fits.{down_pos, round_is}
@@ -58,6 +59,12 @@ unfolding mag
 Good nan = ⊥
 Good (inf s) = ⊥
 Good (fin s m e) = m * up e * unit ≡ mag (fin s m e) * down e
+
+pub Good_prop : (x : Float) → IsProp (Good x)
+unfolding Good
+Good_prop nan = Prim.hlevel props
+Good_prop (inf s) = Prim.hlevel props
+Good_prop (fin s m e) = Prim.hlevel props
 
 -- x is a units, with the sign s
 pub record Is (x : Float) (s : Bool) (a : ℕ) : Type 0 where

@@ -1,4 +1,4 @@
-// IEEE 754 binary64: the square root and the ceiling, which the language does not have. The root is worked out on whole numbers.
+// IEEE 754 binary64: the square root, worked out on whole numbers, and the ceiling.
 #![tactic(auto)]
 
 ghost use Rattle.std.specs.Prelude.{◌≡◌, ◌+◌, ◌*◌, ◌^◌, ◌<◌, ◌≤◌, false, T, pos, from_bits, to_bits};
@@ -25,7 +25,7 @@ const SIGN_BIT: u64 = 9223372036854775808;
 // The bits of positive infinity, 2047 * 2^52.
 const INFINITY: u64 = 9218868437227405312;
 
-// The first eight digits: the whole root of n, by halving.
+// The first eight digits: the whole root of n, by halving. (`isqrt` makes a root take half as long again.)
 fn first_digits(n: u64) -> u64
     requires { (2 ^ 14 ≤ n) × (n < 2 ^ 16) }
     ensures { Root n result }
@@ -78,7 +78,7 @@ fn root_bits(m: u64, f: u64) -> u64
     ensures value { result ≡ to_bits binary64 (root (odd 53 false m f 1074)) }
     ensures finite { result < 2047 * 2 ^ 52 }
 {
-    let zeros = u64::leading_zeros(m) as u64;
+    let zeros = m.leading_zeros() as u64;
     let moved = zeros - (zeros + f) % 2;
     let s = all_digits(m << moved);
     (f + 1032 - moved) / 2 * HIDDEN_BIT + (s + 1) / 2
@@ -102,15 +102,15 @@ fn positive_root(bits: u64) -> f64
 pub fn root(x: f64) -> f64
     ensures { result ≡ root x }
 {
-    if x != x {
+    if x.is_nan() {
         return x;
     }
-    let bits = f64::to_bits(x);
+    let bits = x.to_bits();
     if bits % SIGN_BIT == 0 {
         return x;
     }
     if bits >= SIGN_BIT {
-        return 0.0 / 0.0;
+        return f64::NAN;
     }
     if bits >= INFINITY {
         return x;

@@ -1,14 +1,14 @@
--- The loops that copy words and that fill them.
+-- The loop that copies words.
 use mathlib.Core.Path.{◌≡◌, ap, ◌∙◌}
 use mathlib.Core.Logic.{◌⊎◌, inl, inr}
 use mathlib.Core.List.{List}
 use Prim.Native.Nat.{ℕ, ◌+◌, ◌<◌, ◌≤◌}
 use native.Mathlib.Omega.{arith}
-use lib.ListN.{length, get_or, replicate}
-use Rattle.lists.specs.Words.{over, column}
+use lib.ListN.{length, get_or}
+use Rattle.lists.specs.Words.{column}
 use Rattle.lists.specs.ListLaws.{length_numbers}
-use Rattle.lists.proofs.PartLaws.{get_under, get_above, column_replicate}
-use Rattle.lists.proofs.LoopLaws.{Fill, fill_end}
+use Rattle.lists.proofs.PartLaws.{get_under, get_above}
+use Rattle.lists.proofs.LoopLaws.{Fill}
 
 -- what the next turn reads is still the word that stood there at first
 pub copy_read : {w₀ v : List ℕ} {from to m i : ℕ} → (to ≤ from) ⊎ (from + m ≤ to) → Fill (λ j. get_or w₀ (from + j) 0) w₀ to m v i → i < m → get_or v (from + i) 0 ≡ get_or w₀ (from + i) 0
@@ -18,6 +18,3 @@ copy_read {w₀} {v} {from} {to} {m} {i} d c h =
     let f : to ≤ length w₀ = omega (arith, c.fit) in
     ap (λ (z : List ℕ). get_or z (from + i) 0) c.work
     ∙ elim d [ inl p ↦ get_above w₀ to (from + i) ws (omega arith) f | inr p ↦ get_under w₀ to (from + i) ws (omega arith) f ]
-
-pub filled_end : {w₀ v : List ℕ} {a m i : ℕ} (x : ℕ) → Fill (λ j. x) w₀ a m v i → m ≤ i → v ≡ over w₀ a (replicate m x)
-filled_end {w₀} {v} {a} {m} x c e = fill_end c e ∙ ap (over w₀ a) (column_replicate x m)

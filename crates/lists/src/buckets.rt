@@ -9,6 +9,7 @@ ghost use Rattle.lists.specs.Buckets.{hashes, hash_of};
 use crate::Word;
 
 // The hash h of some numbers, made one of those and e.
+#[tactic(auto, unfolding(crate::specs::Buckets::mix))]
 pub fn mix(h: u64, e: u64) -> u64
     requires { (h < hashes) × (e < hashes) }
     ensures { result ≡ Definitions.mix h e }
@@ -22,13 +23,15 @@ pub fn hash_four(of: [u64; 4]) -> u64
     ensures value { result ≡ hash_of of }
     ensures upper_bound { result < hashes }
 {
-    let a = mix(0, of[0]);
-    let b = mix(a, of[1]);
-    let c = mix(b, of[2]);
-    mix(c, of[3])
+    let mut h = 0;
+    for e in of {
+        h = mix(h, e);
+    }
+    h
 }
 
 // Which of n buckets the hash h falls in.
+#[tactic(auto, unfolding(crate::specs::Buckets::bucket))]
 pub fn bucket(h: u64, n: usize) -> usize
     requires { (h < hashes) × (n < hashes) }
     ensures { result ≡ Definitions.bucket n h }
@@ -37,6 +40,7 @@ pub fn bucket(h: u64, n: usize) -> usize
 }
 
 // Puts the number c at the head of bucket h.
+#[tactic(auto, using(crate::proofs::WordLaws::two_sets))]
 pub fn push(work: &mut [Word], heads: usize, nexts: usize, h: usize, c: usize)
     requires { (heads + h < length work.old) × (nexts + c < length work.old) × (c < 65535) }
     ensures { work.new ≡ over (over work.old (nexts + c) (get_or work.old (heads + h) 0 ∷ [])) (heads + h) ((c + 1) ∷ []) }

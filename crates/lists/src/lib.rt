@@ -14,7 +14,7 @@ pub type Word = u16;
 pub fn wide(x: Word) -> usize
     ensures { result ≡ x }
 {
-    x as usize
+    usize::from(x)
 }
 
 // The word at `at`.
@@ -31,10 +31,9 @@ pub fn copy_words(work: &mut [Word], from: usize, to: usize, m: usize)
     requires inside { (from + m ≤ length work.old) × (to + m ≤ length work.old) }
     ensures { work.new ≡ over work.old to (part work.old from m) }
 {
-    let mut i = 0;
-    while i < m {
+    // `copy_within` copies to a later place from the end on, which takes twice the time.
+    for i in 0..m {
         work[to + i] = work[from + i];
-        i += 1;
     }
 }
 
@@ -43,11 +42,7 @@ pub fn fill_words(work: &mut [Word], at: usize, m: usize, x: Word)
     requires { at + m ≤ length work.old }
     ensures { work.new ≡ over work.old at (replicate m x) }
 {
-    let mut i = 0;
-    while i < m {
-        work[at + i] = x;
-        i += 1;
-    }
+    work[at..at + m].fill(x);
 }
 
 // Makes the `m` words from `at` on 0.

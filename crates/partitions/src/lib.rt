@@ -12,10 +12,8 @@ pub fn reset(leaders: &mut [Word])
     requires { length leaders.old ≤ 65536 }
     ensures { leaders.new ≡ column (λ c. c) (length leaders.old) }
 {
-    let mut c = 0;
-    while c < leaders.len() {
-        leaders[c] = c as Word;
-        c += 1;
+    for (c, leader) in leaders.iter_mut().enumerate() {
+        *leader = c as Word;
     }
 }
 

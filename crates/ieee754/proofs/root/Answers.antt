@@ -3,17 +3,14 @@ use Rattle.std.proofs.Common.{◌≡◌, T, true, sym, ap, ◌∙◌, subst}
 use lib.Ieee.{Float, nan, binary64, of_bits, to_bits, div, fits}
 use lib.Ieee.Bits.{of_bits-to_bits}
 use Rattle.ieee754.specs.Root.{root}
-use Rattle.ieee754.proofs.Fields.{nan_root, no_nan, zero_root, negative_root, infinite_root}
+use Rattle.ieee754.proofs.Fields.{nan_root, zero_root, negative_root, infinite_root}
 use Rattle.ieee754.proofs.root.Goals as goal
 
 own_bits : (x : Float) → fits binary64 x ≡ true → of_bits binary64 (to_bits binary64 x) ≡ x
 own_bits x h = of_bits-to_bits binary64 x (subst T (sym h) tt)
 
-pub returns-then-x : goal.returns-then-x
-returns-then-x c = nan_root c.args.x c.if-x.true
-
-pub float_to_bits-bits : goal.float_to_bits-bits
-float_to_bits-bits c = no_nan c.args.x c.if-x.false
+pub returns-then-is_nan : goal.returns-then-is_nan
+returns-then-is_nan c = nan_root c.args.x (sym c.is_nan.ensures.value ∙ c.if-is_nan.true)
 
 pub returns-then-bits-eq0 : goal.returns-then-bits-eq0
 returns-then-bits-eq0 c = subst (λ (y : Float). y ≡ root y) (own_bits c.args.x c.well_formed.0.1) (zero_root _ c.if-bits-eq0.true)

@@ -1,22 +1,17 @@
 -- One number after the other.
-use native.Mathlib.Omega.{arith}
-use lib.ListN.{get_or}
-use Rattle.lists.specs.Buckets.{hashes}
-use Rattle.lists.proofs.BucketLaws.{mix_below, four_hash}
+use Rattle.std.proofs.Common.{sym, ap, ◌∙◌, arith, get_or}
+use Rattle.std.proofs.Math.ListN.{drop_of_length-le}
+use Rattle.lists.specs.Buckets.{hashes, hash_from}
 use Rattle.lists.specs.OrderLaws.{below_at}
+use Rattle.lists.proofs.BucketLaws.{mix_below, hash_step}
 use Rattle.lists.proofs.buckets.hash_four.Goals as goal
 
-pub mix-a-requires : goal.mix-a-requires
-mix-a-requires c = (omega arith, below_at hashes c.args.of 0 c.requires (omega (arith, c.well_formed.0.1.0.1)))
+pub mix-h-requires : goal.mix-h-requires
+mix-h-requires c = (c.loop-e.invariant.1, below_at hashes c.args.of c.loop-e.e-index c.requires (omega arith))
 
-pub mix-b-requires : goal.mix-b-requires
-mix-b-requires c = (omega (arith, c.mix-a.ensures, mix_below 0 (get_or c.args.of 0 0)), below_at hashes c.args.of 1 c.requires (omega (arith, c.well_formed.0.1.0.1)))
+pub loop-e-preserved : goal.loop-e-preserved
+loop-e-preserved c =
+    rw c.mix-h.ensures (sym (hash_step c.args.of c.loop-e.h c.loop-e.e-index (omega arith)) ∙ c.loop-e.invariant.0, mix_below c.loop-e.h (get_or c.args.of c.loop-e.e-index 0))
 
-pub mix-c-requires : goal.mix-c-requires
-mix-c-requires c = (omega (arith, c.mix-b.ensures, mix_below c.mix-a.result (get_or c.args.of 1 0)), below_at hashes c.args.of 2 c.requires (omega (arith, c.well_formed.0.1.0.1)))
-
-pub mix-requires : goal.mix-requires
-mix-requires c = (omega (arith, c.mix-c.ensures, mix_below c.mix-b.result (get_or c.args.of 2 0)), below_at hashes c.args.of 3 c.requires (omega (arith, c.well_formed.0.1.0.1)))
-
-pub returns : goal.returns
-returns c = record { value = four_hash c.args.of c.well_formed.0.1.0.1 c.mix-a.ensures c.mix-b.ensures c.mix-c.ensures c.mix.ensures; upper_bound = omega (arith, c.mix.ensures, mix_below c.mix-c.result (get_or c.args.of 3 0)) }
+pub returns-clause-value : goal.returns-clause-value
+returns-clause-value c = sym (ap (hash_from c.loop-e.h) (drop_of_length-le c.args.of (omega arith))) ∙ c.loop-e.invariant.0
