@@ -1,5 +1,5 @@
 -- The geometry of frames and settings in the domain is sound: so demand 3 holds of what every accepted run leaves, whatever the bound of its lists.
-use Rattle.std.specs.Prelude.{◌≡◌, List, ℕ, ◌/◌, ◌≤◌, ℤ}
+use Rattle.std.specs.Prelude.{◌≡◌, List, ℕ, ◌/◌, ◌≤◌, ℤ, Ok}
 use Rattle.std.proofs.Common.{sym, le_trans, lit≤}
 use Rattle.std.proofs.Math.Path.{subst}
 use Rattle.std.proofs.Math.ListN.{length}
@@ -8,7 +8,6 @@ use Rattle.hyperparams.specs.Params.{max_frames}
 use Rattle.hyperparams.specs.Accepted.{accepted}
 use Rattle.hyperparams.specs.declared.Params.{Params}
 use Rattle.hyperparams.specs.declared.ValidParams.{ValidParams}
-use Rattle.hyperparams.specs.declared.Checked.TheVariants.{Valid}
 use Rattle.counting_tree.specs.Frames.{Frame, frames_of}
 use Rattle.counting_tree.specs.FramesIn.{frames_length}
 use Rattle.counting_tree.specs.Geometry.{geometry_of, short, Nearer, FarReach}
@@ -34,7 +33,7 @@ module _ (factor : ℕ) (v : ValidParams) (fs : List Frame) where
   }
 
 -- a call that passes the table, on points that are signed 16-bit counts
-module _ (p : Params) (ps : List ℤ) (labels kinds work : List ℕ) (v : ValidParams) (c : Counts ps) (e : checked_call p ps labels kinds work ≡ Valid v) where
+module _ (p : Params) (ps : List ℤ) (labels kinds work : List ℕ) (v : ValidParams) (c : Counts ps) (e : checked_call p ps labels kinds work ≡ Ok v) where
   abbrev fs : List Frame
   fs = frames_of v.channels ps
 
@@ -53,6 +52,6 @@ module _ (p : Params) (ps : List ℤ) (labels kinds work : List ℕ) (v : ValidP
       labels kinds
 
   -- DEMAND 3 of every accepted run
-  pub promise_accepted : Promise short v (frames_of v.channels ps) (labels_left (Valid v) ps labels) (kinds_left (Valid v) ps kinds)
+  pub promise_accepted : Promise short v (frames_of v.channels ps) (labels_left (Ok v) ps labels) (kinds_left (Ok v) ps kinds)
   unfolding run
   promise_accepted = promise_any_list short

@@ -1,5 +1,5 @@
 -- Document 01, "Cases by letter (a to m proved together)": one computed table against the definitions.
-use Rattle.std.specs.Prelude.{◌≡◌, refl, ℕ, ℤ, eqb, replicate}
+use Rattle.std.specs.Prelude.{◌≡◌, refl, ℕ, ℤ, eqb, replicate, Ok, Err}
 use mathlib.Core.List.{List, [], ◌∷◌, ◌++◌, map}
 use Rattle.std.proofs.Math.IntN.{pos}
 use Rattle.lists.specs.Lists.{how_many}
@@ -12,9 +12,7 @@ use Rattle.counting_tree.specs.declared.IntersectionType.TheVariants.{Disjoint, 
 use Rattle.counting_tree.specs.Grid.{index}
 use Rattle.counting_tree.specs.Box.{intersection}
 use Rattle.counting_tree.specs.Geometry.{side}
-use Rattle.appx_dbscan.specs.declared.Outcome.{Outcome}
-use Rattle.appx_dbscan.specs.declared.Outcome.TheVariants.{Labelled, Refused}
-use Rattle.appx_dbscan.specs.Transform.{run, outcome_of, labels_left, kinds_left, work_left, checked_call}
+use Rattle.appx_dbscan.specs.Transform.{Outcome, run, outcome_of, labels_left, kinds_left, work_left, checked_call}
 use Rattle.appx_dbscan.specs.Small.{params, minus}
 
 -- "One channel, t = 2, side 2": the base side of these settings
@@ -32,8 +30,8 @@ box_at2 s q = unfold intersection in pos (told (intersection 1 (float 2) (appx_t
 
 -- the outcome of a call: clusters and core frames, or the number of the refusal
 abbrev answer_told : Outcome → List ℕ
-answer_told (Labelled c m) = c ∷ m ∷ []
-answer_told (Refused r) = number_of r ∷ []
+answer_told (Ok k) = k.clusters ∷ k.core_frames ∷ []
+answer_told (Err r) = number_of r ∷ []
 
 -- the labels and kinds that a call leaves in slices of four, which held 7 and 9, its outcome, and how many of 96 work words, which held 5, are 0 and how many still 5
 abbrev call : Params → List ℤ → List ℤ

@@ -1,5 +1,5 @@
 -- "These stand-ins are shown to violate it": for each a named small input on which the promise, or the equation with the definitions, fails of it.
-use Rattle.std.specs.Prelude.{◌≡◌, refl, Bool, false, not, ◌&&◌, List, [], ◌∷◌, ℕ, ◌+◌, ◌*◌, ◌^◌, ◌<◌, ℤ, pos, T, ltb, get_or, replicate}
+use Rattle.std.specs.Prelude.{◌≡◌, refl, Bool, false, not, ◌&&◌, List, [], ◌∷◌, ℕ, ◌+◌, ◌*◌, ◌^◌, ◌<◌, ℤ, pos, T, ltb, get_or, replicate, Ok, Err}
 use Rattle.std.proofs.Common.{sym, ap, ◌∙◌, inl, inr, T_not, lit<, ltb→lt, lt→ltb}
 use Rattle.std.proofs.Math.Bool.{cond}
 use Rattle.std.proofs.Math.ListN.{length}
@@ -8,15 +8,14 @@ use Rattle.lists.specs.Words.{column}
 use Rattle.lists.specs.ListLaws.{T_or_not, and_both, any_in, numbers_in}
 use Rattle.hyperparams.specs.declared.Params.{Params}
 use Rattle.hyperparams.specs.declared.ValidParams.{ValidParams}
-use Rattle.hyperparams.specs.declared.Checked.{Checked}
 use Rattle.hyperparams.specs.declared.Refusal.{Refusal}
-use Rattle.hyperparams.specs.Params.{float, slack_at, whole_tolerance, slack_power, appx_tolerance_of, checked_of}
+use Rattle.hyperparams.specs.Params.{Verdict, float, slack_at, whole_tolerance, slack_power, appx_tolerance_of, checked_of}
 use Rattle.counting_tree.specs.Frames.{Frame}
 use Rattle.counting_tree.specs.Geometry.{Geometry, geometry_of, short, N, FarReach}
 use Rattle.cells_grid.specs.Cells.{first, listed, core, core_cells, count}
 use Rattle.clustering.specs.Clusters.{connected, place, clusters, label_by, kind_of, none}
-use Rattle.appx_dbscan.specs.declared.Outcome.{Outcome}
-use Rattle.appx_dbscan.specs.Transform.{Answer, transform_of, run, outcome_of, labels_left, checked_call}
+use Rattle.appx_dbscan.specs.declared.Counts.{Counts}
+use Rattle.appx_dbscan.specs.Transform.{Outcome, Answer, transform_of, run, outcome_of, labels_left, checked_call}
 use Rattle.appx_dbscan.specs.Promise.{Chain, alone, step, CoreFrame, into_listed, Border, Noise, Promise}
 use Rattle.appx_dbscan.specs.Small.{params, minus, valid, frames, grid, differ, differ_at}
 
@@ -52,14 +51,17 @@ module _ (g : Geometry) where
   root_only = transform_of (record { frames = g.frames; least = g.least; levels = 0; same = g.same; near = g.near; within = g.within; box = g.box })
 
 -- ---- tools
+abbrev counts : (clusters core_frames : ℕ) → Counts
+counts c m = record { clusters = c; core_frames = m }
+
 -- the counts of an outcome, 0 where it is a refusal
 abbrev clusters_in : Outcome → ℕ
-clusters_in (Outcome.Labelled c m) = c
-clusters_in (Outcome.Refused r) = 0
+clusters_in (Ok k) = k.clusters
+clusters_in (Err r) = 0
 
 abbrev cores_in : Outcome → ℕ
-cores_in (Outcome.Labelled c m) = m
-cores_in (Outcome.Refused r) = 0
+cores_in (Ok k) = k.core_frames
+cores_in (Err r) = 0
 
 core_frame : (g : Geometry) (p : ℕ) → T (ltb p g.frames) → T (core g p) → CoreFrame g p
 core_frame g p h c = record { inside = ltb→lt p g.frames h; is_core = c }
@@ -165,14 +167,14 @@ constant_cores_fail k e f = differ 2 4 tt (sym e ∙ f)
 abbrev params_2 : Params
 params_2 = params 1 2 (float 2) (slack_at 0)
 
-abbrev verdict : List ℤ → Checked
+abbrev verdict : List ℤ → Verdict
 verdict ps = checked_call params_2 ps (replicate 2 7) (replicate 2 9) (replicate 48 5)
 
 abbrev points_2 : List ℤ
 points_2 = pos 1 ∷ pos 2 ∷ []
 
 -- a cluster more, or a core frame more, is not the outcome of the call
-pub invented_counts_fail : (Outcome.Labelled 2 2 ≡ outcome_of (verdict points_2) points_2 → ⊥) × (Outcome.Labelled 1 3 ≡ outcome_of (verdict points_2) points_2 → ⊥)
+pub invented_counts_fail : (Ok (counts 2 2) ≡ outcome_of (verdict points_2) points_2 → ⊥) × (Ok (counts 1 3) ≡ outcome_of (verdict points_2) points_2 → ⊥)
 unfolding checked_of run
 invented_counts_fail = (λ e. differ 2 1 tt (ap clusters_in e), λ e. differ 3 2 tt (ap cores_in e))
 
@@ -207,6 +209,6 @@ same_kinds_fail labels others kinds p q =
     T_not (core (grid set_2 twice_5) 0) ((p.others.kind_noise 0 (lit< tt)).0 ((q.others.kind_noise 0 (lit< tt)).1 noise_once)).not_core tt
 
 -- ---- a refusal on everything
-pub always_refused_fails : (r : Refusal) → Outcome.Refused r ≡ outcome_of (verdict points_2) points_2 → ⊥
+pub always_refused_fails : (r : Refusal) → Err r ≡ outcome_of (verdict points_2) points_2 → ⊥
 unfolding checked_of run
 always_refused_fails r e = differ 0 1 tt (ap clusters_in e)

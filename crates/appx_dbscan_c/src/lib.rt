@@ -1,9 +1,8 @@
 // The run for callers in C and other languages: slices as a pointer and a length, the answer as numbers.
 #![tactic(auto)]
 
-ghost use Rattle.std.specs.Prelude.{◌≡◌};
+ghost use Rattle.std.specs.Prelude.{◌≡◌, Ok};
 ghost use Rattle.hyperparams.specs.declared.ValidParams.{ValidParams};
-ghost use Rattle.hyperparams.specs.declared.Checked.TheVariants.{Valid};
 ghost use Rattle.counting_tree.specs.Frames.{frames_of};
 ghost use Rattle.counting_tree.specs.Geometry.{short};
 ghost use Rattle.appx_dbscan.specs.Transform.{outcome_of, labels_left, kinds_left, work_left, checked_call};
@@ -11,8 +10,8 @@ ghost use Rattle.appx_dbscan.specs.Promise.{Promise};
 ghost use Rattle.appx_dbscan.specs.Small.{params};
 ghost use Rattle.appx_dbscan_c.specs.Told.{told_of, needed_of};
 
-use appx_dbscan::Outcome;
-use hyperparams::{MAX_FRAMES, MAX_POWER, Params};
+use appx_dbscan::Counts;
+use hyperparams::{MAX_FRAMES, MAX_POWER, Params, Refusal};
 
 // `refusal` is 0 where the frames are labelled, else the number of the refusal, 1 to 9, and the counts are 0.
 #[repr(C)]
@@ -23,20 +22,17 @@ pub struct AppxDbscanOutcome {
     pub core_frames: usize,
 }
 
-fn told(outcome: Outcome) -> AppxDbscanOutcome
+fn told(outcome: Result<Counts, Refusal>) -> AppxDbscanOutcome
     ensures { result ≡ told_of outcome }
 {
     match outcome {
-        Outcome::Labelled {
-            clusters,
-            core_frames,
-        } => AppxDbscanOutcome {
+        Ok(counts) => AppxDbscanOutcome {
             refusal: 0,
-            clusters,
-            core_frames,
+            clusters: counts.clusters,
+            core_frames: counts.core_frames,
         },
-        Outcome::Refused(refusal) => AppxDbscanOutcome {
-            refusal: hyperparams::number(refusal),
+        Err(refusal) => AppxDbscanOutcome {
+            refusal: refusal.into(),
             clusters: 0,
             core_frames: 0,
         },
@@ -64,7 +60,7 @@ pub extern "C" fn appx_dbscan_transform(
     ensures work { let ps = points.now in let ws = work.old in
         work.new ≡ work_left (checked_call (params channels min_points tolerance slack) ps labels.old kinds.old ws) ps ws }
     ensures promise { let ps = points.now in
-        (v : ValidParams) → checked_call (params channels min_points tolerance slack) ps labels.old kinds.old work.old ≡ Valid v
+        (v : ValidParams) → checked_call (params channels min_points tolerance slack) ps labels.old kinds.old work.old ≡ Ok v
         → Promise short v (frames_of v.channels ps) labels.new kinds.new }
 {
     let p = Params {
@@ -81,10 +77,7 @@ pub extern "C" fn appx_dbscan_transform(
 pub extern "C" fn appx_dbscan_work_words(frames: usize, s: usize) -> usize
     ensures { result ≡ needed_of frames s }
 {
-    if frames > MAX_FRAMES {
-        return 0;
-    }
-    if s > MAX_POWER {
+    if frames > MAX_FRAMES || s > MAX_POWER {
         return 0;
     }
     hyperparams::work_words(frames, s)

@@ -1,28 +1,28 @@
 -- Blocks in arrays: the counts of a frame as the program reads them, their edges, a row compared channel by channel, and the bucket of a block.
 use mathlib.Core.Path.{◌≡◌, refl, sym, ap, ap₂, ◌∙◌}
 use mathlib.Core.Logic.{inl, inr}
-use mathlib.Core.Bool.{Bool, true, false, not, ◌&&◌, cond, and-true}
+use mathlib.Core.Bool.{Bool, true, false, not, ◌&&◌, and-true}
 use mathlib.Core.List.{List, [], ◌∷◌}
-use Prim.Native.Nat.{ℕ, suc, ◌+◌, ◌-◌, ◌*◌, ◌/◌, ◌%◌, ◌^◌, ◌<◌, ◌≤◌}
-use native.Mathlib.Nat.{mul-le-mul, add-zero, add_comm, sub-zero, div-one}
+use Prim.Native.Nat.{ℕ, zero, suc, ◌+◌, ◌-◌, ◌*◌, ◌/◌, ◌%◌, ◌^◌, ◌<◌, ◌≤◌}
+use native.Mathlib.Nat.{add_comm, sub-zero, div-one}
 use native.Mathlib.Omega.{arith}
-use lib.IntN.{ℤ, pos, ◌+ℤ◌}
+use lib.IntN.{ℤ, pos, negsuc, ◌+ℤ◌}
 use lib.Dec.{leb, ltb, eqb, leb→le, le→leb, ltb→lt, lt→ltb, eqb→eq}
-use lib.ListN.{length, get_or, take, drop, replicate, length-map, length-drop, drop_of_length-le, get_or-eq_default}
+use lib.ListN.{length, get_or, take, drop, replicate, length-map, length-drop, drop_of_length-le}
 use lib.Seq.{get_or-take, get_or-drop, drop-cons, length-take-le}
-use mir.Syntax.{w16, w64}
-use mir.Val.{Fits, SFits, to_z, of_z}
+use mir.Syntax.{w16}
+use mir.Val.{SFits, to_z, of_z}
 use mir.Facts.{to_z-of_z}
-use borrow.Author.Tests.{le-leb, lt-leb, eq-eqb}
-use Rattle.lists.specs.Lists.{Below}
+use borrow.Author.Tests.{eq-eqb}
+use Rattle.lists.specs.Lists.{In, Below}
 use Rattle.lists.specs.Words.{over}
-use Rattle.lists.proofs.WordLaws.{over_length, four_over}
-use Rattle.lists.specs.ListLaws.{true_T, both_ways, not_turn, at_map}
-use Rattle.hyperparams.specs.Params.{max_frames}
+use Rattle.lists.proofs.WordLaws.{over_length}
+use Rattle.lists.specs.ListLaws.{in_append, true_T, both_ways, not_turn, at_map}
 use Rattle.hyperparams.specs.declared.ValidParams.{ValidParams}
 use Rattle.counting_tree.specs.Frames.{Frame, frames_in}
-use Rattle.counting_tree.specs.FramesIn.{frame_at, frame_inside, frame_length}
+use Rattle.counting_tree.specs.FramesIn.{frame_at, frame_length}
 use Rattle.counting_tree.specs.Geometry.{frame}
+use Rattle.counting_tree.specs.Domain.{Count, Counts}
 use Rattle.counting_tree.specs.Ready.{Ready}
 use Rattle.blocks.specs.Blocks.{raise, edge, edges_of, key_of, shifted, second, own_block, same_nats, spread, row_hash, bucket_at, bucket_of}
 use Rattle.blocks.specs.BlockLaws.{raise_is, edge_le, edge_above, edge_is, edge_div, array_at, shifted_length, shifted_at, own_below}
@@ -36,23 +36,7 @@ raised_is c x f e = raise_is c x f.sfits (e ∙ ap (λ (z : ℤ). z +ℤ pos 327
 pub bit_0 : (m : ℕ) → m % 2 ≡ m / 2 ^ 0 % 2
 bit_0 m = ap (λ (z : ℕ). z % 2) (sym (div-one m))
 
--- whether it lies in the second of two blocks
-module _ (w low : ℕ) (c : ℤ) {x : ℕ} (e : x ≡ raise c) where
-  pub second_yes : low + w ≤ x → 1 ≡ second w low c
-  second_yes h = sym (ap (λ (b : Bool). cond b 1 0) (le-leb (low + w) (raise c) (omega (arith, e))))
-
-  pub second_no : x < low + w → 0 ≡ second w low c
-  second_no h = sym (ap (λ (b : Bool). cond b 1 0) (lt-leb (low + w) (raise c) (omega (arith, e))))
-
 module _ (w : ℕ) (p : 0 < w) (c : ℤ) {x : ℕ} (e : x ≡ raise c) where
-  pub edge_zero : (down : ℕ) → x ≤ down → 0 ≡ edge w (raise c - down)
-  edge_zero down h =
-      let q : raise c - down ≡ 0 = omega (arith, e) in
-      omega (arith, q)
-
-  pub edge_down : (down : ℕ) → (x - down) - (x - down) % w ≡ edge w (raise c - down)
-  edge_down down = ap (λ (z : ℕ). edge w (z - down)) e
-
   -- whether the count lies in the block that begins at `low`
   module _ (low : ℕ) (m : low % w ≡ 0) where
     pub holds_above : low ≤ x → ltb (x - low) w ≡ eqb (edge w (raise c)) low
@@ -66,53 +50,40 @@ module _ (w : ℕ) (p : 0 < w) (c : ℤ) {x : ℕ} (e : x ≡ raise c) where
         (λ t. le→leb low x (omega (arith, e, edge_le w p (raise c), eqb→eq (edge w (raise c)) low t)))
 
 -- ---- an array of four
-pub four_below : (n a b c d : ℕ) → a < n → b < n → c < n → d < n → Below n (a ∷ b ∷ c ∷ d ∷ [])
-four_below n a b c d h k l m x (inl e) = omega arith
-four_below n a b c d h k l m x (inr (inl e)) = omega arith
-four_below n a b c d h k l m x (inr (inr (inl e))) = omega arith
-four_below n a b c d h k l m x (inr (inr (inr (inl e)))) = omega arith
-four_below n a b c d h k l m x (inr (inr (inr (inr e)))) = absurd e
+-- edges of counts, and zeros after them
+module _ (w down : ℕ) where
+  edge_small : (c : ℤ) → Count c → edge w (raise c - down) < 65536
+  edge_small (pos n) h = omega arith
+  edge_small (negsuc n) h = omega arith
 
--- the first numbers, and zeros
-module _ (es : List ℕ) where
-  past : (k : ℕ) → length es ≤ k → 0 ≡ get_or es k 0
-  past k h = sym (get_or-eq_default es 0 h)
+  edges_small : (f : Frame) → Counts f → Below 65536 (edges_of w down f)
+  edges_small [] h x i = absurd i
+  edges_small (c ∷ f) h x (inl e) = let k : edge w (raise c - down) < 65536 = edge_small c (h 0 (omega arith)) in omega arith
+  edges_small (c ∷ f) h x (inr i) = edges_small f (λ k l. h (suc k) (omega arith)) x i
 
-  pub place_one : (a : ℕ) → length es ≡ 1 → a ≡ get_or es 0 0 → ◌≡◌ {A = List ℕ} (a ∷ 0 ∷ 0 ∷ 0 ∷ []) (over (replicate 4 0) 0 es)
-  place_one a l p = four_over 0 es a 0 0 0 (omega arith) p (past 1 (omega arith)) (past 2 (omega arith)) (past 3 (omega arith))
+  zeros : (k n x : ℕ) → In x (drop k (replicate n 0)) → x ≡ 0
+  zeros k zero x i = absurd (none k i)
+    where
+      none : (k : ℕ) → In x (drop k []) → ⊥
+      none zero i = i
+      none (suc k) i = i
+  zeros zero (suc n) x (inl e) = e
+  zeros zero (suc n) x (inr i) = zeros zero n x i
+  zeros (suc k) (suc n) x i = zeros k n x i
 
-  pub place_two : (a b : ℕ) → length es ≡ 2 → a ≡ get_or es 0 0 → b ≡ get_or es 1 0 → ◌≡◌ {A = List ℕ} (a ∷ b ∷ 0 ∷ 0 ∷ []) (over (replicate 4 0) 0 es)
-  place_two a b l p q = four_over 0 es a b 0 0 (omega arith) p q (past 2 (omega arith)) (past 3 (omega arith))
-
-  pub place_three : (a b c : ℕ) → length es ≡ 3 → a ≡ get_or es 0 0 → b ≡ get_or es 1 0 → c ≡ get_or es 2 0 → ◌≡◌ {A = List ℕ} (a ∷ b ∷ c ∷ 0 ∷ []) (over (replicate 4 0) 0 es)
-  place_three a b c l p q r = four_over 0 es a b c 0 (omega arith) p q r (past 3 (omega arith))
-
-  pub place_four : (a b c d : ℕ) → length es ≡ 4 → a ≡ get_or es 0 0 → b ≡ get_or es 1 0 → c ≡ get_or es 2 0 → d ≡ get_or es 3 0 → ◌≡◌ {A = List ℕ} (a ∷ b ∷ c ∷ d ∷ []) (over (replicate 4 0) 0 es)
-  place_four a b c d l p q r s = four_over 0 es a b c d (omega arith) p q r s
+  pub edges_below : (f : Frame) → Counts f → Below 65536 (over (replicate 4 0) 0 (edges_of w down f))
+  edges_below f h x i = elim (in_append x (edges_of w down f) (drop (0 + length (edges_of w down f)) (replicate 4 0)) i) [
+    | inl j ↦ edges_small f h x j
+    | inr j ↦ omega (arith, zeros (0 + length (edges_of w down f)) 4 x j)
+  ]
 
 -- ---- the counts of a frame
--- the place p of a count
-pub record Place (ps : List ℤ) (p : ℕ) : Type 0 where
-  pub fits : Fits w64 p
-  pub bytes : Fits w64 (p * 2)
-  pub inside : p < length ps
-
 module _ {ps : List ℤ} {v : ValidParams} {n : ℕ} (r : Ready ps v n) (i : ℕ) (h : i < n) where
   abbrev F : Frame
   F = frame v (frames_in n v.channels ps) i
 
   pub long : length (frame v (frames_in n v.channels ps) i) ≡ v.channels
   long = frame_length n v.channels ps i r.room h
-
-  pub place : (k p : ℕ) → k < v.channels → p ≡ i * v.channels + k → Place ps p
-  place k p l e =
-      let a = frame_inside n v.channels (length ps) i r.room h in
-      let b = frame_inside n v.channels (n * v.channels) i (omega arith) h in
-      let c : n * v.channels ≤ max_frames * 4 = mul-le-mul r.few r.settings.scale.most in
-      record { fits = record { fits = omega arith }; bytes = record { fits = omega arith }; inside = omega arith }
-
-  pub first_place : Place ps (i * v.channels)
-  first_place = place 0 (i * v.channels) r.settings.scale.some (sym (add-zero (i * v.channels)))
 
   count_at_lem : (k p : ℕ) → k < v.channels → p ≡ i * v.channels + k → get_or F k (pos 0) ≡ get_or ps p (pos 0)
   count_at_lem k p l e =
@@ -129,11 +100,6 @@ module _ {ps : List ℤ} {v : ValidParams} {n : ℕ} (r : Ready ps v n) (i : ℕ
     -- in an array of four
     pub row_long : length (over (replicate 4 0) 0 (edges_of w down (frame v (frames_in n v.channels ps) i))) ≡ 4
     row_long = over_length (replicate 4 0) 0 (edges_of w down F) (omega (arith, edges_long, r.settings.scale.most))
-
-    pub edge_at : (k p x : ℕ) → k < v.channels → p ≡ i * v.channels + k → SFits w16 (get_or ps p (pos 0)) → x ≡ edge w (raise (to_z w16 (of_z w16 (get_or ps p (pos 0)))) - down) → x ≡ get_or (edges_of w down (frame v (frames_in n v.channels ps) i)) k 0
-    edge_at k p x l e f q =
-        q ∙ ap (λ (z : ℤ). edge w (raise z - down)) (to_z-of_z f ∙ sym (count_at_lem k p l e))
-        ∙ sym (at_map (λ c. edge w (raise c - down)) (pos 0) 0 F k (omega (arith, long)))
 
   -- compared with a row, from channel k + 1 on
   module _ (w m : ℕ) (first : List ℕ) (four : length first ≡ 4) where

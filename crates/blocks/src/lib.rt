@@ -7,13 +7,11 @@ ghost use Rattle.std.specs.Prelude.{◌≡◌, ℕ, ◌+◌, ◌-◌, ◌*◌, �
 ghost use Rattle.lists.specs.Lists.{Below};
 ghost use Rattle.lists.specs.Words.{over, column};
 ghost use Rattle.lists.specs.Buckets.{hashes};
-ghost use Rattle.counting_tree.specs.Frames.{frames_in};
-ghost use Rattle.counting_tree.specs.Geometry.{frame};
-ghost use Rattle.counting_tree.specs.Ready.{Ready};
+ghost use Rattle.counting_tree.specs.Given.{frame_of};
 ghost use Rattle.blocks.specs.Blocks as Definitions;
 ghost use Rattle.blocks.specs.Blocks.{raise, edges_of, key_of, shifted, own_block, same_nats, row_hash, bucket_at, bucket_of, stretch_in};
 
-use hyperparams::ValidParams;
+use counting_tree::Frames;
 use lists::Word;
 
 // From 14n on stand the numbers by bucket, from 15n on, while they are sorted, the bucket of each. Each search says where the ends of its buckets stand.
@@ -44,33 +42,12 @@ fn edge(c: i16, width: u64, down: u64) -> u64
 }
 
 // Where the blocks begin that hold the raised counts of frame i less `down`, with zeros in the channels that are not used.
-pub fn edges_at(
-    points: &[i16],
-    v: ValidParams,
-    n: usize,
-    width: u64,
-    down: u64,
-    i: usize,
-) -> [u64; 4]
-    requires { Ready points.now v n × (i < n) × (0 < width) }
-    ensures value { result ≡ over (replicate 4 0) 0 (edges_of width down (frame v (frames_in n v.channels points.now) i)) }
+pub fn edges_at(frames: &Frames, width: u64, down: u64, i: usize) -> [u64; 4]
+    requires { (i < frames.now.n) × (0 < width) }
+    ensures value { result ≡ over (replicate 4 0) 0 (edges_of width down (frame_of frames.now i)) }
     ensures below { Below 65536 result }
 {
-    let start = i * v.channels;
-    let a = edge(points[start], width, down);
-    if v.channels == 1 {
-        return [a, 0, 0, 0];
-    }
-    let b = edge(points[start + 1], width, down);
-    if v.channels == 2 {
-        return [a, b, 0, 0];
-    }
-    let c = edge(points[start + 2], width, down);
-    if v.channels == 3 {
-        return [a, b, c, 0];
-    }
-    let d = edge(points[start + 3], width, down);
-    [a, b, c, d]
+    counting_tree::points::map_counts(frames.frame(i), 0, |c| edge(c, width, down))
 }
 
 // A number below 2^32, by the square of x.
@@ -129,12 +106,12 @@ pub fn bucket(h: u64, along: usize, size: usize) -> usize
 }
 
 // The bucket of frame j's block.
-pub fn key(points: &[i16], v: ValidParams, n: usize, width: u64, size: usize, j: usize) -> usize
-    requires { Ready points.now v n × (j < n) × (0 < width) × (0 < size) × (size < hashes) }
-    ensures value { result ≡ bucket_of width size (frame v (frames_in n v.channels points.now) j) }
+pub fn key(frames: &Frames, width: u64, size: usize, j: usize) -> usize
+    requires { (j < frames.now.n) × (0 < width) × (0 < size) × (size < hashes) }
+    ensures value { result ≡ bucket_of width size (frame_of frames.now j) }
     ensures upper_bound { result < size }
 {
-    let low = edges_at(points, v, n, width, 0, j);
+    let low = edges_at(frames, width, 0, j);
     bucket(hash_of(low), (low[0] / width) as usize, size)
 }
 
@@ -159,31 +136,24 @@ fn second(c: i16, width: u64, low: u64) -> usize
 }
 
 // Which of the rows around frame i it lies in itself. (Where a search begins is free: it only has to be one of the rows.)
-pub fn own_row(
-    points: &[i16],
-    v: ValidParams,
-    n: usize,
-    width: u64,
-    first: [u64; 4],
-    i: usize,
-) -> usize
-    requires { Ready points.now v n × (i < n) × Below 65536 first × (width < 2 ^ 19) }
-    ensures value { result ≡ own_block width (drop 1 first) (drop 1 (frame v (frames_in n v.channels points.now) i)) }
-    ensures upper_bound { result < 2 ^ (v.channels - 1) }
+pub fn own_row(frames: &Frames, width: u64, first: [u64; 4], i: usize) -> usize
+    requires { (i < frames.now.n) × Below 65536 first × (width < 2 ^ 19) }
+    ensures value { result ≡ own_block width (drop 1 first) (drop 1 (frame_of frames.now i)) }
+    ensures upper_bound { result < 2 ^ (frames.now.v.channels - 1) }
 {
-    if v.channels == 1 {
+    if frames.v.channels == 1 {
         return 0;
     }
-    let start = i * v.channels;
-    let one = second(points[start + 1], width, first[1]);
-    if v.channels == 2 {
+    let start = i * frames.v.channels;
+    let one = second(frames.points[start + 1], width, first[1]);
+    if frames.v.channels == 2 {
         return one;
     }
-    let two = one + 2 * second(points[start + 2], width, first[2]);
-    if v.channels == 3 {
+    let two = one + 2 * second(frames.points[start + 2], width, first[2]);
+    if frames.v.channels == 3 {
         return two;
     }
-    two + 4 * second(points[start + 3], width, first[3])
+    two + 4 * second(frames.points[start + 3], width, first[3])
 }
 
 // Whether a raised count lies in the block that begins at `low`, or where `bit` is 1 `width` later.
@@ -197,35 +167,27 @@ fn holds(c: i16, low: u64, width: u64, bit: usize) -> bool
 }
 
 // Whether frame j lies in row m of those that begin at `first`: the first channel that differs settles it.
-pub fn in_row(
-    points: &[i16],
-    v: ValidParams,
-    n: usize,
-    width: u64,
-    first: [u64; 4],
-    m: usize,
-    j: usize,
-) -> bool
-    requires { Ready points.now v n × (j < n) × (0 < width) × (width < 2 ^ 19) × Below 65536 first × ((q : ℕ) → q < v.channels → get_or first q 0 % width ≡ 0) }
-    ensures { result ≡ same_nats (key_of width (drop 1 (frame v (frames_in n v.channels points.now) j))) (shifted width (take (v.channels - 1) (drop 1 first)) m) }
+pub fn in_row(frames: &Frames, width: u64, first: [u64; 4], m: usize, j: usize) -> bool
+    requires { (j < frames.now.n) × (0 < width) × (width < 2 ^ 19) × Below 65536 first × ((q : ℕ) → q < frames.now.v.channels → get_or first q 0 % width ≡ 0) }
+    ensures { result ≡ same_nats (key_of width (drop 1 (frame_of frames.now j))) (shifted width (take (frames.now.v.channels - 1) (drop 1 first)) m) }
 {
-    if v.channels == 1 {
+    if frames.v.channels == 1 {
         return true;
     }
-    let start = j * v.channels;
-    if !holds(points[start + 1], first[1], width, m % 2) {
+    let start = j * frames.v.channels;
+    if !holds(frames.points[start + 1], first[1], width, m % 2) {
         return false;
     }
-    if v.channels == 2 {
+    if frames.v.channels == 2 {
         return true;
     }
-    if !holds(points[start + 2], first[2], width, m / 2 % 2) {
+    if !holds(frames.points[start + 2], first[2], width, m / 2 % 2) {
         return false;
     }
-    if v.channels == 3 {
+    if frames.v.channels == 3 {
         return true;
     }
-    holds(points[start + 3], first[3], width, m / 4 % 2)
+    holds(frames.points[start + 3], first[3], width, m / 4 % 2)
 }
 
 // Row m after row `start` of so many: after the last comes row 0.

@@ -7,6 +7,7 @@ use Prim.Native.Nat.{ℕ, ◌+◌, ◌-◌, ◌*◌, ◌<◌, ◌≤◌}
 use native.Mathlib.Nat.{le_refl}
 use native.Mathlib.Decide.{dec_lt}
 use native.Mathlib.Omega.{arith}
+use mir.Val.{bool_byte}
 use lib.IntN.{ℤ}
 use lib.Dec.{T, T_not, leb}
 use lib.ListN.{length, get_or, replicate, length-replicate}
@@ -81,28 +82,35 @@ module _ {ps : List ℤ} {v : ValidParams} {n k i : ℕ} {w : List ℕ} (p : Rea
       unfolding dense
       own_dense = ap₂ leb (sym crowd_least) size
 
-  -- d says whether its cell is dense
-  module _ {d : Bool} (q : d ≡ dense (geometry_at v n ps) i) where
-    pub core_dense : d ≡ true → 1 ≡ core_bit (geometry_at v n ps) i
-    unfolding core_bit core
-    core_dense t = rw (sym q ∙ t)
+-- ---- whether frame i is core, where d says whether its cell is dense
+pub core_dense : (g : Geometry) (i : ℕ) {d : Bool} → d ≡ dense g i → d ≡ true → d ≡ core g i
+unfolding core
+core_dense g i q t = t ∙ rw (sym q ∙ t)
 
-    module _ (t : d ≡ false) where
-      pub core_sparse : (b : Bool) {r : Bool} → r ≡ leb (geometry_at v n ps).least (how_many (neighbour (geometry_at v n ps) i) (numbers n)) → r ≡ b → cond b 1 0 ≡ core_bit (geometry_at v n ps) i
-      unfolding core_bit core
-      core_sparse b s u = sym (ap₂ (λ (d x : Bool). cond (cond d true x) 1 0) (sym q ∙ t)
-          (ap (λ (m : ℕ). leb g.least (how_many (neighbour g i) (numbers m))) e ∙ sym s ∙ u))
+-- and as a word
+pub core_word : (g : Geometry) (i : ℕ) {b : Bool} → b ≡ core g i → bool_byte b ≡ core_bit g i
+unfolding core_bit
+core_word g i {b} e = word b ∙ ap (λ (x : Bool). cond x 1 0) e
+  where
+    word : (x : Bool) → bool_byte x ≡ cond x 1 0
+    word true = refl
+    word false = refl
 
-      -- x is how many neighbours it has besides itself
-      module _ (C : Counts ps) {x : ℕ} (c : x ≡ others v n ps i) where
-        many : how_many (neighbour g i) (numbers n) ≡ 1 + x
-        many = others_more p.0 C i p.2 ∙ ap (λ (z : ℕ). 1 + z) (sym c)
+module _ {ps : List ℤ} {v : ValidParams} {n : ℕ} (r : Ready ps v n) (i : ℕ) {d : Bool} (q : d ≡ dense (geometry_at v n ps) i) (t : d ≡ false) where
+  pub core_sparse : {b : Bool} → b ≡ leb (geometry_at v n ps).least (how_many (neighbour (geometry_at v n ps) i) (numbers n)) → b ≡ core (geometry_at v n ps) i
+  unfolding core
+  core_sparse s =
+      let g = geometry_at v n ps in
+      sym (ap₂ (λ (d x : Bool). cond d true x) (sym q ∙ t) (ap (λ (m : ℕ). leb g.least (how_many (neighbour g i) (numbers m))) (at_frames v n ps) ∙ sym s))
 
-        pub counted_yes : v.min_points ≤ 1 + x → 1 ≡ core_bit (geometry_at v n ps) i
-        counted_yes m = core_sparse true (sym (le-leb g.least (how_many (neighbour g i) (numbers n)) (omega (arith, many, crowd_least)))) refl
+  -- x is how many neighbours it has besides itself
+  pub core_counted : Counts ps → i < n → {x : ℕ} → x ≡ others v n ps i → leb v.min_points (1 + x) ≡ core (geometry_at v n ps) i
+  core_counted C h c =
+      core_sparse (ap₂ leb (sym (at_least v n ps)) (sym (others_more r C i h ∙ ap (λ (z : ℕ). 1 + z) (sym c))))
 
-        pub counted_no : 1 + x < v.min_points → 0 ≡ core_bit (geometry_at v n ps) i
-        counted_no m = core_sparse false (sym (lt-leb g.least (how_many (neighbour g i) (numbers n)) (omega (arith, many, crowd_least)))) refl
+-- all cells are k
+pub cells_arranged : {g : Geometry} {k : ℕ} {w : List ℕ} → k ≡ length (cells g) → Arranged g (length (cells g)) w → Arranged g k w
+cells_arranged {g} {k} {w} e A = subst (λ (m : ℕ). Arranged g m w) (sym e) A
 
 -- ---- where every cell is dense
 -- the cells before c are, and c is
@@ -188,7 +196,7 @@ module _ {ps : List ℤ} {v : ValidParams} {n : ℕ} {w₀ : List ℕ} (L : Laid
     bits_laid = subst (Laid v n ps) (sym F.work) (laid_over L (4 * n) (bits i) (omega arith) (omega (arith, bits_long i, F.high)))
 
     pub bits_arranged : {k : ℕ} → k ≡ length (cells (geometry_at v n ps)) → Arranged (geometry_at v n ps) k w
-    bits_arranged e = subst (λ (m : ℕ). Arranged (geometry_at v n ps) m w) (sym e) bits_laid.arranged
+    bits_arranged e = cells_arranged e bits_laid.arranged
 
 -- where the pairs are counted in the words from 10n on
 module _ {ps : List ℤ} {v : ValidParams} {n : ℕ} {w₀ : List ℕ} (L : Laid v n ps w₀) (z : Clear w₀ (10 * n) n) {h : List ℕ} (e : h ≡ over w₀ (10 * n) (column (others v n ps) n)) where

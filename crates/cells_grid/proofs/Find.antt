@@ -7,6 +7,7 @@ use Prim.Native.Nat.{ℕ, zero, suc, ◌+◌, ◌-◌, ◌*◌, ◌<◌, ◌≤�
 use native.Mathlib.Omega.{arith}
 use native.Mathlib.Nat.{eq-or-lt_of_le, add-zero}
 use native.Mathlib.Numerals.{add-one}
+use Rattle.std.specs.Prelude.{Option, Some, None}
 use lib.IntN.{ℤ}
 use lib.Dec.{T, ltb, eqb, eqb→eq, eqb_refl}
 use lib.ListN.{length, get_or, set, length-append, length-set, get_or-append}
@@ -89,6 +90,11 @@ module _ (g : Geometry) (L : Lawful g) (i : ℕ) (h : i < g.frames) where
   pub number_le : cell_number g i ≤ how_many (is_cell g) (numbers i)
   number_le = elim (eq-or-lt_of_le first_le) [ inl e ↦ omega (arith, number_new e) | inr l ↦ omega (arith, number_less l) ]
 
+-- a number that may be there, or else the next one, k
+abbrev or_next : ℕ → Option ℕ → ℕ
+or_next k None = k
+or_next k (Some c) = c
+
 -- ---- the search along a bucket's chain: the cell that has the indexes is below e, if any has them
 pub record Seek (w : List ℕ) (n k h : ℕ) (of : List ℕ) (e : ℕ) : Type 0 where
   pub walk : Walk (in_bucket (bucket_in w n) h) k e
@@ -111,8 +117,8 @@ module _ {w : List ℕ} {n k h : ℕ} (of : List ℕ) (b : (h < n) × (h ≡ buc
       record { walk = walk_start s; left = ap (last_with has) s ∙ last_within has chain chained_in k }
 
   module _ {e : ℕ} (s : Seek w n k h of e) where
-    pub seek_end : e ≡ 0 → k ≡ cell_in w n k of
-    seek_end t = ap (less_one k) (sym (ap (last_with has) t) ∙ s.left)
+    pub seek_end : e ≡ 0 → None ≡ cell_in w n k of
+    seek_end t = ap less_one (sym (ap (last_with has) t) ∙ s.left)
 
     module _ (c : ℕ) (t : e ≡ c + 1) where
       pub seek_low : c < k
@@ -122,8 +128,8 @@ module _ {w : List ℕ} {n k h : ℕ} (of : List ℕ) (b : (h < n) × (h ≡ buc
       here = sym s.left ∙ ap (last_with has) t ∙ last_more has c
 
       module _ {y : Bool} (q : y ≡ same_nats (numbers_at w (16 * n + 8 * c)) of) where
-        pub seek_hit : y ≡ true → c ≡ cell_in w n k of
-        seek_hit u = sym (ap (less_one k) (here ∙ ap (λ (a : Bool). cond a (c + 1) (last_with has c)) (sym q ∙ u) ∙ add-one c))
+        pub seek_hit : y ≡ true → Some c ≡ cell_in w n k of
+        seek_hit u = sym (ap less_one (here ∙ ap (λ (a : Bool). cond a (c + 1) (last_with has c)) (sym q ∙ u) ∙ add-one c))
 
         pub seek_miss : y ≡ false → {x : ℕ} → x ≡ get_or w (11 * n + c) 0 → Seek w n k h of x × (x < e)
         seek_miss u {x} r =
@@ -180,10 +186,10 @@ module _ {ps : List ℤ} {v : ValidParams} {n i k : ℕ} {w : List ℕ} (p : Rea
       has_same : has_indexes w n of c ≡ same_cell g i (cell_at g c)
       has_same = ap₂ same_nats (b.indexed c l) own ∙ same_naturals p.0 p.1 i (cell_at g c) p.2 (omega (arith, cell_at_below g c cell, at_frames v n ps))
 
-    found_cell : cell_in w n k of ≡ cell_number g i
+    found_cell : or_next k (cell_in w n k of) ≡ cell_number g i
     found_cell = go (last_with (has_indexes w n of) k) refl
       where
-        go : (m : ℕ) → last_with (has_indexes w n of) k ≡ m → less_one k m ≡ cell_number g i
+        go : (m : ℕ) → last_with (has_indexes w n of) k ≡ m → or_next k (less_one m) ≡ cell_number g i
         go zero q = elim (eq-or-lt_of_le (first_le g L i inside)) [
           | inl o ↦ b.count ∙ sym (number_new g L i inside o)
           | inr m ↦
@@ -195,14 +201,16 @@ module _ {ps : List ℤ} {v : ValidParams} {n i k : ℕ} {w : List ℕ} (p : Rea
             let l : c < k = omega (arith, q, last_le (has_indexes w n of) k) in
             sym ((number_same g L i (cell_at g c) inside (cell_at_below g c (cell c l))).1 (subst T (has_same c l) (last_hit (has_indexes w n of) k c q)) ∙ number_at g c (cell c l))
 
+    -- a cell that is found is one of the k
+    pub found_low : {c : ℕ} → Some c ≡ cell_in w n k of → c < k
+    found_low {c} f = go (last_with (has_indexes w n of) k) (last_le (has_indexes w n of) k) f
+      where
+        go : (m : ℕ) → m ≤ k → Some c ≡ less_one m → c < k
+        go zero l e = absurd (omega (arith, ap (or_next (c + 1)) e))
+        go (suc d) l e = omega (arith, ap (or_next 0) e)
+
     -- ---- what is written then: c is the number that was found
-    module _ {c : ℕ} (f : c ≡ cell_in w n k of) where
-      q : c ≡ cell_number g i
-      q = f ∙ found_cell
-
-      pub insert_le : c ≤ k
-      insert_le = omega (arith, q, b.count, number_le g L i inside)
-
+    module _ {c : ℕ} (q : c ≡ cell_number g i) where
       new : (t : Bool) → eqb c k ≡ t → is_cell g i ≡ t
       new t e = begins g L i inside ∙ ap₂ eqb (sym q) (sym b.count) ∙ e
 
@@ -226,11 +234,11 @@ module _ {ps : List ℤ} {v : ValidParams} {n i k : ℕ} {w : List ℕ} (p : Rea
       unfolding inserted
       told t e = ap (λ (a : Bool). chained v n ps i k a (W₂ a)) (sym (new t e))
 
-      pub insert_new : c ≡ k → {h x : ℕ} → x ≡ hash_of of → h ≡ bucket n x → {u₁ u : List ℕ} → u₁ ≡ over (set (set w i c) (n + k) i) (16 * n + 8 * k) (two_words of)
+      insert_at : c ≡ k → {h x : ℕ} → x ≡ hash_of of → h ≡ bucket n x → {u₁ u : List ℕ} → u₁ ≡ over (set (set w i c) (n + k) i) (16 * n + 8 * k) (two_words of)
           → u ≡ over (over u₁ (11 * n + k) (get_or u₁ (10 * n + h) 0 ∷ [])) (10 * n + h) ((k + 1) ∷ [])
           → (k + 1 ≡ how_many (is_cell g) (numbers (i + 1))) × (u ≡ inserted v n ps i k (is_cell g i) w)
       unfolding chained
-      insert_new e {h} a d {u₁} {u} r₁ r =
+      insert_at e {h} a d {u₁} {u} r₁ r =
           let t : eqb c k ≡ true = eq-eqb c k e in
           let ws : List ℕ = two_words (naturals v n ps i) in
           let lw : length ws ≡ 8 = two_words_length (naturals v n ps i) ∙ ap (λ (m : ℕ). 2 * m) (naturals_length p.0 i p.2) in
@@ -245,11 +253,21 @@ module _ {ps : List ℤ} {v : ValidParams} {n i k : ℕ} {w : List ℕ} (p : Rea
             r ∙ ap₂ (λ (z : List ℕ) (m : ℕ). over (over z (11 * n + k) (get_or z (10 * n + m) 0 ∷ [])) (10 * n + m) ((k + 1) ∷ [])) first (own_bucket a d) ∙ told true t,
           )
 
-      pub insert_old : (c ≡ k → ⊥) → (k ≡ how_many (is_cell g) (numbers (i + 1))) × (set w i c ≡ inserted v n ps i k (is_cell g i) w)
+      insert_on : (c ≡ k → ⊥) → (k ≡ how_many (is_cell g) (numbers (i + 1))) × (set w i c ≡ inserted v n ps i k (is_cell g i) w)
       unfolding chained
-      insert_old e =
+      insert_on e =
           let t : eqb c k ≡ false = ne_eqb c k e in
           let o : X false ≡ w = over_nil w (16 * n + 8 * k) in (
             sym (add-zero k) ∙ count false t,
             ap (λ (z : List ℕ). set z i c) (sym o) ∙ number false (ap length o) ∙ sym (over_nil (W false) (n + k)) ∙ told false t,
           )
+
+    -- the frame begins cell k
+    pub insert_new : None ≡ cell_in w n k of → {h x : ℕ} → x ≡ hash_of of → h ≡ bucket n x → {u₁ u : List ℕ} → u₁ ≡ over (set (set w i k) (n + k) i) (16 * n + 8 * k) (two_words of)
+        → u ≡ over (over u₁ (11 * n + k) (get_or u₁ (10 * n + h) 0 ∷ [])) (10 * n + h) ((k + 1) ∷ [])
+        → (k + 1 ≡ how_many (is_cell g) (numbers (i + 1))) × (u ≡ inserted v n ps i k (is_cell g i) w)
+    insert_new f a d = insert_at (ap (or_next k) f ∙ found_cell) refl a d
+
+    -- it is one of cell c
+    pub insert_old : {c : ℕ} → Some c ≡ cell_in w n k of → (k ≡ how_many (is_cell g) (numbers (i + 1))) × (set w i c ≡ inserted v n ps i k (is_cell g i) w)
+    insert_old f = insert_on (ap (or_next k) f ∙ found_cell) (λ e. omega (arith, e, found_low f))

@@ -1,6 +1,5 @@
 -- The unmarked cells in the rows around a frame are listed row by row.
 use mathlib.Core.Path.{◌≡◌, refl, sym, ap, ap₂, subst, ◌∙◌}
-use mathlib.Core.Logic.{inr}
 use mathlib.Core.List.{List, [], ◌++◌, append_assoc, append-nil}
 use Prim.Native.Nat.{ℕ, suc, ◌+◌, ◌-◌, ◌*◌, ◌^◌, ◌<◌, ◌≤◌}
 use native.Mathlib.Numerals.{add-one}
@@ -10,15 +9,15 @@ use lib.ListN.{length, get_or, length-append}
 use Rattle.lists.specs.Words.{over}
 use Rattle.lists.proofs.WordLaws.{over_length, over_nil, over_next}
 use Rattle.hyperparams.specs.declared.ValidParams.{ValidParams}
-use Rattle.counting_tree.specs.Geometry.{Geometry}
 use Rattle.counting_tree.specs.Ready.{geometry_at, Ready, at_frames}
 use Rattle.blocks.specs.Blocks.{own_row}
 use Rattle.cells_grid.specs.Cells.{cells}
 use Rattle.cells_grid.specs.Arrangement.{cell_at, Arranged}
 use Rattle.cells_grid.specs.Ready.{ready_lawful}
-use Rattle.cells_grid.proofs.ArrangementLaws.{first_word, first_word_low, arranged_over}
-use Rattle.cells_grid.specs.Listing.{reach_of, unmarked, list_in, list_from, list_of, later_of, CellsSorted, MarkedRuns}
-use Rattle.cells_grid.proofs.ListingLaws.{unmarked_all, unmarked_le, unmarked_append, unmarked_over, few, in_below, list_length, list_rows, later_length, cells_sorted_over, marked_runs_over}
+use Rattle.cells_grid.proofs.ArrangementLaws.{first_word, first_word_low}
+use Rattle.cells_grid.proofs.Searching.{laid_over}
+use Rattle.cells_grid.specs.Listing.{reach_of, unmarked, list_in, list_from, list_of, later_of, CellsLaid}
+use Rattle.cells_grid.proofs.ListingLaws.{unmarked_all, unmarked_le, unmarked_append, unmarked_over, few, in_below, list_length, list_rows, later_length}
 
 -- where no word is the mark, no cell is left out
 pub none_marked : (w : List ℕ) (a m b : ℕ) (ds : List ℕ) → ((d : ℕ) → get_or w (a + d) 0 ≡ m → ⊥) → {x : ℕ} {u : List ℕ} → (x ≡ length (unmarked w a m ds)) × (u ≡ over w b (unmarked w a m ds)) → (x ≡ length ds) × (u ≡ over w b ds)
@@ -42,15 +41,10 @@ module _ (v : ValidParams) (n : ℕ) (ps : List ℤ) (i : ℕ) where
       ap (list_from v n ps i a r) e ∙ ap (λ (x : ℕ). list_in v n ps i a r ++ list_from v n ps i 0 x (R - (r + 1))) (sym (add-one r))
 
   -- they are searched in the words w₀
-  pub record Asked (k after start marks mark : ℕ) (w₀ : List ℕ) : Type 0 where
-    pub ready : Ready ps v n
-    pub arranged : Arranged (geometry_at v n ps) k w₀
-    pub sorted : CellsSorted v n ps w₀
-    pub fit : 16 * n ≤ length w₀
-    pub apart : marks + n ≤ 10 * n
+  pub record Asked (after start marks mark : ℕ) (w₀ : List ℕ) : Type 0 where
+    pub laid : CellsLaid v n ps marks mark w₀
     pub low : start < 2 ^ (v.channels - 1)
     pub room : length (rows_from after start) ≤ n
-    pub runs : MarkedRuns w₀ n k marks mark
 
   -- of the rows before r the cells `done` are found, and of these the unmarked ones listed; left are the rows from r on, of which in row r only the cells with numbers from `least` on
   pub record Gathering (after start marks mark : ℕ) (w₀ w : List ℕ) (m r least : ℕ) : Type 0 where
@@ -60,10 +54,10 @@ module _ (v : ValidParams) (n : ℕ) (ps : List ℤ) (i : ℕ) where
     pub laid : w ≡ over w₀ (15 * n) (unmarked w₀ marks mark done)
     pub left : done ++ rows_from least r ≡ rows_from after start
 
-module _ {v : ValidParams} {n : ℕ} {ps : List ℤ} {i k after start marks mark : ℕ} {w₀ : List ℕ} (S : Asked v n ps i k after start marks mark w₀) where
-  abbrev g : Geometry
-  g = geometry_at v n ps
+pub asked_of : {v : ValidParams} {n : ℕ} {ps : List ℤ} (i after start : ℕ) {marks mark : ℕ} {w₀ : List ℕ} → CellsLaid v n ps marks mark w₀ → start < 2 ^ (v.channels - 1) → length (rows_from v n ps i after start) ≤ n → Asked v n ps i after start marks mark w₀
+asked_of i after start l s r = record { laid = l; low = s; room = r }
 
+module _ {v : ValidParams} {n : ℕ} {ps : List ℤ} {i after start marks mark : ℕ} {w₀ : List ℕ} (S : Asked v n ps i after start marks mark w₀) where
   pub gathering_start : Gathering v n ps i after start marks mark w₀ w₀ 0 start after
   unfolding unmarked
   gathering_start = record { high = omega (arith, S.low); done = []; count = refl; laid = sym (over_nil w₀ (15 * n)); left = refl }
@@ -79,16 +73,10 @@ module _ {v : ValidParams} {n : ℕ} {ps : List ℤ} {i k after start marks mark
     sizes = omega (arith, length-append D (free (rows_from v n ps i least r)), ap length (unmarked_append w₀ marks mark G.done (rows_from v n ps i least r)), ap (λ (l : List ℕ). length (free l)) G.left, unmarked_le w₀ marks mark (rows_from v n ps i after start), S.room)
 
     pub gathering_length : length w ≡ length w₀
-    gathering_length = ap length G.laid ∙ over_length w₀ (15 * n) D (omega (arith, sizes, S.fit))
+    gathering_length = ap length G.laid ∙ over_length w₀ (15 * n) D (omega (arith, sizes, S.laid.fit))
 
-    pub gathering_arranged : Arranged (geometry_at v n ps) k w
-    gathering_arranged = subst (Arranged g k) (sym G.laid) (arranged_over g (15 * n) D (omega (arith, at_frames v n ps)) (omega (arith, S.fit)) S.arranged)
-
-    pub gathering_sorted : CellsSorted v n ps w
-    gathering_sorted = subst (CellsSorted v n ps) (sym G.laid) (cells_sorted_over S.ready (15 * n) D (omega (arith, S.fit)) (inr (omega arith)) S.sorted)
-
-    pub gathering_runs : MarkedRuns w n k marks mark
-    gathering_runs = subst (λ (z : List ℕ). MarkedRuns z n k marks mark) (sym G.laid) (marked_runs_over S.ready S.sorted marks (omega (arith, S.arranged.count)) S.apart S.runs (15 * n) D (omega arith) (omega (arith, S.fit)))
+    pub gathering_laid : CellsLaid v n ps marks mark w
+    gathering_laid = subst (CellsLaid v n ps marks mark) (sym G.laid) (laid_over S.laid (15 * n) D (omega arith) (omega (arith, sizes)))
 
     module _ (more : r < 2 ^ (v.channels - 1)) where
       abbrev row : List ℕ
@@ -98,7 +86,7 @@ module _ {v : ValidParams} {n : ℕ} {ps : List ℤ} {i k after start marks mark
       as_before : unmarked w marks mark row ≡ free row
       as_before =
           ap (λ (z : List ℕ). unmarked z marks mark row) G.laid
-          ∙ unmarked_over w₀ marks mark n (15 * n) D row (λ d l. omega (arith, in_below S.ready i least r d l, few S.ready)) (omega (arith, S.apart)) (omega (arith, S.fit))
+          ∙ unmarked_over w₀ marks mark n (15 * n) D row (λ d l. omega (arith, in_below S.laid.ready i least r d l, few S.laid.ready)) (omega (arith, S.laid.apart)) (omega (arith, S.laid.fit))
 
       fits : length D + length (free row) ≤ n
       fits = omega (arith, sizes, ap (λ (l : List ℕ). length (free l)) (rows_step v n ps i least r more), ap length (unmarked_append w₀ marks mark row (rows_from v n ps i 0 (r + 1))), length-append (free row) (free (rows_from v n ps i 0 (r + 1))))
@@ -114,7 +102,7 @@ module _ {v : ValidParams} {n : ℕ} {ps : List ℤ} {i k after start marks mark
             done = G.done ++ row;
             count = omega (arith, p, G.count, ap length as_before, ap length e, length-append D (free row));
             laid = q ∙ ap₂ (λ (z : List ℕ) (l : List ℕ). over z (15 * n + m) l) G.laid as_before
-                ∙ over_next w₀ (15 * n) (15 * n + m) D (free row) (omega (arith, G.count)) (omega (arith, G.count, fits, S.fit))
+                ∙ over_next w₀ (15 * n) (15 * n + m) D (free row) (omega (arith, G.count)) (omega (arith, G.count, fits, S.laid.fit))
                 ∙ ap (over w₀ (15 * n)) (sym e);
             left = append_assoc G.done row (rows_from v n ps i 0 (r + 1)) ∙ ap (λ (l : List ℕ). G.done ++ l) (sym (rows_step v n ps i least r more)) ∙ G.left;
           }

@@ -11,8 +11,12 @@ pub mod Sorting
 pub mod Gathering
 pub mod Neighbours
 pub mod PairLoops
+pub mod SharedBuckets
 pub mod CellLaws
 pub mod ArrangementLaws
 pub mod ListingLaws
 pub mod PairLaws
 pub mod RaisedLaws
+pub mod RowsAround
+pub mod NeighbourSearch
+pub mod CellSearch

@@ -1,17 +1,17 @@
 -- Frames near a frame are counted row by row, and each row along its stretch of the sorted frames, until there are enough.
 use mathlib.Core.Path.{◌≡◌, refl, sym, ap, ap₂, subst, ◌∙◌}
 use mathlib.Core.Logic.{inl, inr}
-use mathlib.Core.Bool.{Bool, true, false, not, ◌&&◌, cond, and-true, and-false}
+use mathlib.Core.Bool.{Bool, true, false, ◌&&◌, cond, and-true, and-false}
 use mathlib.Core.List.{List, ◌∷◌, ◌++◌}
-use Prim.Native.Nat.{ℕ, ◌+◌, ◌-◌, ◌*◌, ◌/◌, ◌%◌, ◌^◌, ◌<◌, ◌≤◌, min}
+use Prim.Native.Nat.{ℕ, ◌+◌, ◌-◌, ◌*◌, ◌%◌, ◌^◌, ◌<◌, ◌≤◌, min}
 use native.Mathlib.Omega.{arith}
-use lib.IntN.{ℤ, pos}
+use lib.IntN.{ℤ}
 use lib.Dec.{T, leb, leb→le}
-use lib.ListN.{length, take, drop, get_or, replicate, length-append}
+use lib.ListN.{length, get_or, length-append}
 use Rattle.lists.specs.Lists.{numbers, keep, how_many, total, In, Below}
-use Rattle.lists.specs.Words.{over, part}
+use Rattle.lists.specs.Words.{part}
 use Rattle.lists.specs.Sorting.{numbered, Sorted}
-use Rattle.lists.specs.ListLaws.{T_false, not_turn, and_right, in_keep, in_append, append_one, append_two, in_numbers}
+use Rattle.lists.specs.ListLaws.{T_false, and_right, in_keep, in_append, append_one, append_two, in_numbers}
 use Rattle.lists.specs.OrderLaws.{kept_le, total_round}
 use Rattle.lists.specs.CountLaws.{keep_append, how_many_cons, length_concat}
 use Rattle.lists.specs.PermLaws.{perm_length}
@@ -24,8 +24,7 @@ use Rattle.counting_tree.specs.Domain.{Counts}
 use Rattle.counting_tree.specs.Sound.{within_whole}
 use Rattle.counting_tree.specs.Ready.{geometry_at, Ready, at_frames, at_least, ready_domain}
 use Rattle.blocks.specs.declared.Stretch.{Stretch}
-use Rattle.blocks.specs.Blocks.{raise, width, edges_of, key_of, shifted, same_nats, row_hash, bucket_at, stretch_in, frame_at, row_of, row_around, bucket_around, pair_at, found_in, found}
-use Rattle.blocks.specs.AroundLaws.{Rows, rows_multiple, rows_row, rows_low, rows_along}
+use Rattle.blocks.specs.Blocks.{same_nats, stretch_in, frame_at, row_of, row_around, bucket_around, pair_at, found_in, found}
 use Rattle.blocks.specs.RowLaws.{around_low, found_order}
 use Rattle.blocks.specs.SortedLaws.{Stretched, stretch_holds}
 use Rattle.cells_grid.specs.Cells.{first, cells, cell_number, listed, neighbour}
@@ -157,6 +156,10 @@ module _ {ps : List ℤ} {v : ValidParams} {n k j : ℕ} {w : List ℕ} (r : Rea
     pub first_below : {f : ℕ} → f ≡ get_or w (n + c) 0 → f < n
     first_below p = omega (arith, first_is p, (first_in (geometry_at v n ps) L j inside).0, e)
 
+-- the first frame of frame i's cell
+pub own_below : {ps : List ℤ} {v : ValidParams} {n i own : ℕ} → Ready ps v n → i < n → own ≡ first (geometry_at v n ps) i → own < n
+own_below {ps} {v} {n} {i} r h q = omega (arith, q, (first_in (geometry_at v n ps) (ready_lawful r) i (omega (arith, at_frames v n ps))).0, at_frames v n ps)
+
 -- the tests of a frame j in turn: in the block (s), within the tolerance of frame i, in a cell that frame i's lists
 module _ (g : Geometry) (i j : ℕ) (s : Bool) where
   pub not_here : s ≡ false → false ≡ s && neighbour g i j
@@ -170,52 +173,36 @@ module _ (g : Geometry) (i j : ℕ) (s : Bool) where
   unfolding neighbour listed
   by_list a b p q = ap₂ g.near p q ∙ sym (ap₂ (λ (t u : Bool). t && (g.near (first g i) (first g j) && u)) a b ∙ and-true (g.near (first g i) (first g j)))
 
--- ---- what is asked of one frame
-module _ {ps : List ℤ} {v : ValidParams} {n i : ℕ} {w arr : List ℕ} {own : ℕ}
-    (p : (Ready ps v n × Arranged (geometry_at v n ps) (length (cells (geometry_at v n ps))) w × (i < n) × (own ≡ first (geometry_at v n ps) i))
-    × ((arr ≡ over (replicate 4 0) 0 (edges_of (width v.t) v.t (frame_at v.t v n ps i))) × Below 65536 arr)) where
-  rows : Rows v.t v n ps i arr
-  rows = record { ready = p.0.0; below = p.0.2; begin = p.1.0; small = p.1.1 }
+-- ---- what is asked of one frame, one test after the other
+module _ (v : ValidParams) (n : ℕ) (ps : List ℤ) (i m j : ℕ) where
+  abbrev G : Geometry
+  G = geometry_at v n ps
 
-  pub row_width : v.t ≤ 65535
-  row_width = p.0.0.settings.scale.high
+  abbrev here : Bool
+  here = same_nats (row_of v.t v n ps j) (row_around v.t v n ps i m)
 
-  pub along_low : {x : ℕ} → x ≡ (raise (get_or (frame_at v.t v n ps i) 0 (pos 0)) - v.t) / width v.t → x < 65536
-  along_low q = rows_low rows (q ∙ sym (rows_along rows))
+  pub tests_within : {u : Bool} → u ≡ G.within i j → u ≡ false → false ≡ neighbour_in v n ps i m j
+  tests_within k c = not_within G i j here (sym k ∙ c)
 
-  pub own_below : own < n
-  own_below = omega (arith, p.0.3, (first_in (geometry_at v n ps) (ready_lawful p.0.0) i (omega (arith, at_frames v n ps, p.0.2))).0, at_frames v n ps)
+  module _ {b : Bool} (q : b ≡ here) where
+    pub tests_row : b ≡ false → false ≡ neighbour_in v n ps i m j
+    tests_row a = not_here G i j here (sym q ∙ a)
 
-  pub row_fits : {s j : ℕ} → s ≡ width v.t → j < n → Ready ps v n × (j < n) × (0 < s) × (s < 524288) × Below 65536 arr × ((q : ℕ) → q < v.channels → get_or arr q 0 % s ≡ 0)
-  row_fits d l = (p.0.0, l, omega arith, omega (arith, row_width), p.1.1, λ q h. ap (λ (z : ℕ). get_or arr q 0 % z) d ∙ rows_multiple rows q)
-
-  module _ (m j : ℕ) {s : ℕ} (d : s ≡ width v.t) {b : Bool} (q : b ≡ same_nats (key_of s (drop 1 (frame_at v.t v n ps j))) (shifted s (take (v.channels - 1) (drop 1 arr)) m)) where
-    here : b ≡ same_nats (row_of v.t v n ps j) (row_around v.t v n ps i m)
-    here = q ∙ ap (λ (z : ℕ). same_nats (key_of z (drop 1 (frame_at v.t v n ps j))) (shifted z (take (v.channels - 1) (drop 1 arr)) m)) d ∙ ap (same_nats (row_of v.t v n ps j)) (rows_row rows m)
-
-    pub tests_row : not b ≡ true → false ≡ neighbour_in v n ps i m j
-    tests_row a = not_here (geometry_at v n ps) i j (same_nats (row_of v.t v n ps j) (row_around v.t v n ps i m)) (sym here ∙ not_turn b true a)
-
-    pub tests_list : not b ≡ false → {u : Bool} → u ≡ (geometry_at v n ps).within i j → not u ≡ false → {f : ℕ} → f ≡ first (geometry_at v n ps) j → {t : Bool} → t ≡ (geometry_at v n ps).near own f → t ≡ neighbour_in v n ps i m j
-    tests_list a {u} k c f r = r ∙ by_list (geometry_at v n ps) i j (same_nats (row_of v.t v n ps j) (row_around v.t v n ps i m)) (sym here ∙ not_turn b false a) (sym k ∙ not_turn u false c) p.0.3 f
-
-  pub tests_within : (m j : ℕ) {u : Bool} → u ≡ (geometry_at v n ps).within i j → not u ≡ true → false ≡ neighbour_in v n ps i m j
-  tests_within m j {u} k c = not_within (geometry_at v n ps) i j (same_nats (row_of v.t v n ps j) (row_around v.t v n ps i m)) (sym k ∙ not_turn u true c)
+    pub tests_list : b ≡ true → {u : Bool} → u ≡ G.within i j → u ≡ true → {own f : ℕ} → own ≡ first G i → f ≡ first G j → {t : Bool} → t ≡ G.near own f → t ≡ neighbour_in v n ps i m j
+    tests_list a k c o f r = r ∙ by_list G i j here (sym q ∙ a) (sym k ∙ c) o f
 
 -- ---- one row
-module _ {ps : List ℤ} {v : ValidParams} {n i : ℕ} {w : List ℕ} (m : ℕ) (r : Ready ps v n) (h : i < n) (S : Sorted (frame_key v n ps) n (8 * n) (16 * n) (14 * n) w) {b : ℕ}
-    (q : b ≡ bucket_at (8 * n - 1) (row_hash (row_around v.t v n ps i m)) ((raise (get_or (frame_at v.t v n ps i) 0 (pos 0)) - v.t) / width v.t)) where
+module _ {ps : List ℤ} {v : ValidParams} {n i : ℕ} {w : List ℕ} (m : ℕ) (r : Ready ps v n) (h : i < n) (S : Sorted (frame_key v n ps) n (8 * n) (16 * n) (14 * n) w) where
   abbrev f : ℕ → Bool
   f = neighbour_in v n ps i m
 
-  around : b ≡ bucket_around v.t v n ps (8 * n - 1) i m
-  unfolding bucket_around
-  around = q
+  abbrev b : ℕ
+  b = bucket_around v.t v n ps (8 * n - 1) i m
 
-  pub row_bucket : b < 8 * n - 1
-  row_bucket = omega (arith, around, around_low v.t v n ps (8 * n - 1) (omega arith) i m)
+  row_bucket : b < 8 * n - 1
+  row_bucket = around_low v.t v n ps (8 * n - 1) (omega arith) i m
 
-  module _ {s : Stretch} (e : s ≡ stretch_in w (16 * n) b (8 * n - 1)) where
+  module _ {s : Stretch} (e : s ≡ stretch_in w (16 * n) (bucket_around v.t v n ps (8 * n - 1) i m) (8 * n - 1)) where
     H : Stretched (frame_key v n ps) n (14 * n) b (8 * n - 1) w s
     H = let d : 8 * n ≡ 8 * n - 1 + 1 = omega arith in stretch_holds S d row_bucket e
 
@@ -248,8 +235,7 @@ module _ {ps : List ℤ} {v : ValidParams} {n i : ℕ} {w : List ℕ} (m : ℕ) 
     unfolding found_in pair_at
     row_parts f =
         let h : ℕ → Bool = λ x. same_nats (row_of v.t v n ps x) (row_around v.t v n ps i m) && f x in
-        ap (λ (z : ℕ). keep h (numbered (frame_key v n ps) n z ++ numbered (frame_key v n ps) n ((z + 1) % (8 * n - 1)))) (sym around)
-        ∙ ap (keep h) (sym H.both)
+        ap (keep h) (sym H.both)
         ∙ keep_append h A B
 
     pub row_sum : neighbours_in v n ps i m ≡ how_many (neighbour_in v n ps i m) (part w (14 * n + s.«from») (s.to - s.«from»)) + how_many (neighbour_in v n ps i m) (part w (14 * n + 0) (s.rest - 0))

@@ -1,32 +1,26 @@
--- Pairs are counted stretch by stretch, row by row, frame by frame: what has risen so far, and what is still to be found. And how many frames share their buckets.
+-- Pairs are counted stretch by stretch, row by row, frame by frame: what has risen so far, and what is still to be found.
 use mathlib.Core.Path.{◌≡◌, refl, sym, ap, ap₂, subst, ◌∙◌}
 use mathlib.Core.Bool.{Bool, true, false, cond, ◌&&◌, and-false}
 use mathlib.Core.List.{List, [], ◌∷◌, ◌++◌, map, append_assoc, append-nil}
-use Prim.Native.Nat.{ℕ, ◌+◌, ◌-◌, ◌*◌, ◌/◌, ◌^◌, ◌<◌, ◌≤◌}
-use native.Mathlib.Nat.{mul-le-mul, add-mul, mul-add}
+use Prim.Native.Nat.{ℕ, ◌+◌, ◌-◌, ◌*◌, ◌^◌, ◌<◌, ◌≤◌}
 use native.Mathlib.Omega.{arith}
-use lib.IntN.{ℤ, pos}
+use lib.IntN.{ℤ}
 use lib.Dec.{leb}
-use lib.ListN.{length, get_or, set, drop, replicate, length-append}
+use lib.ListN.{length, get_or, set, replicate, length-append}
 use borrow.Author.Tests.{eq-eqb, ne_eqb, le-leb, lt-leb}
-use Rattle.lists.specs.Lists.{numbers, keep, concat, total, Below}
+use Rattle.lists.specs.Lists.{keep, concat, Below}
 use Rattle.lists.specs.Words.{over, part, column, rest, Clear}
-use Rattle.lists.specs.Sorting.{begin_in, start_of, Sorted}
-use Rattle.lists.specs.CountLaws.{keep_le, total_append}
-use Rattle.lists.specs.OrderLaws.{numbers_snoc}
+use Rattle.lists.specs.CountLaws.{keep_le}
 use Rattle.lists.proofs.LoopLaws.{rest_start, rest_step, rest_end}
-use Rattle.lists.proofs.PartLaws.{part_length, part_step, part_below, holds_at}
-use Rattle.lists.proofs.SortLaws.{start_le, start_mono, begin_at, begin_first, begin_later}
+use Rattle.lists.proofs.PartLaws.{part_length, part_step, part_below}
 use Rattle.hyperparams.specs.declared.ValidParams.{ValidParams}
 use Rattle.counting_tree.specs.Domain.{Counts}
 use Rattle.counting_tree.specs.Ready.{geometry_at}
 use Rattle.blocks.specs.declared.Stretch.{Stretch}
-use Rattle.blocks.specs.Blocks.{raise, width, own_block, same_nats, frame_at, row_of, row_hash, row_around, bucket_at, stretch_in}
-use Rattle.blocks.specs.AroundLaws.{Rows}
-use Rattle.blocks.specs.OwnRowLaws.{own_which, rows_own}
+use Rattle.blocks.specs.Blocks.{same_nats, row_of, row_around, bucket_around, stretch_in}
 use Rattle.cells_grid.specs.Cells.{neighbour}
 use Rattle.cells_grid.specs.Crowding.{neighbour_in}
-use Rattle.cells_grid.specs.Pairs.{raised, Room, size_in, squares_in, Laid, row_for, low_in, later_in, later_row, later_of, risen, others}
+use Rattle.cells_grid.specs.Pairs.{raised, Room, Countable, later_by, Laid, row_for, low_in, later_in, later_row, later_of, risen, others}
 use Rattle.cells_grid.proofs.RaisedLaws.{raised_part, raised_above, raised_set, many_fits, Raising, raising_start, raising_length, raising_room, raising_more, raising_end, raising_left, laid_raised}
 use Rattle.cells_grid.proofs.PairLaws.{later_few, all_room, all_counted}
 use Rattle.cells_grid.proofs.Neighbours.{stretch_fits, rest_fits, rest_short, row_parts}
@@ -36,37 +30,26 @@ module _ (v : ValidParams) (n : ℕ) (ps : List ℤ) (i low m j : ℕ) where
   abbrev here : Bool
   here = same_nats (row_of v.t v n ps j) (row_around v.t v n ps i m)
 
-  pub later_not : j < low → false ≡ later_in v n ps i low m j
-  later_not h = sym (ap (λ (b : Bool). here && (b && neighbour (geometry_at v n ps) i j)) (lt-leb low j h) ∙ and-false here)
+  pub later_not : j < low → leb low j ≡ later_in v n ps i low m j
+  later_not h = lt-leb low j h ∙ sym (ap (λ (b : Bool). here && (b && neighbour (geometry_at v n ps) i j)) (lt-leb low j h) ∙ and-false here)
 
   pub later_is : low ≤ j → {b : Bool} → b ≡ neighbour_in v n ps i m j → b ≡ later_in v n ps i low m j
   later_is h e = e ∙ sym (ap (λ (b : Bool). here && (b && neighbour (geometry_at v n ps) i j)) (le-leb low j h))
 
 -- ---- a stretch
 module _ (v : ValidParams) (n : ℕ) (ps : List ℤ) (i low m : ℕ) where
-  -- those found among the sorted frames from a up to b
-  abbrev pub later_by : List ℕ → (a b : ℕ) → List ℕ
-  later_by w a b = keep (later_in v n ps i low m) (part w (14 * n + a) (b - a))
-
-  -- what a stretch from a up to b asks
-  pub record Search (a b : ℕ) (w₀ : List ℕ) : Type 0 where
-    pub laid : Laid v n ps w₀
-    pub fits : (a ≤ b) × (b ≤ n) × Below n (part w₀ (14 * n + a) (b - a))
-    pub room : Room w₀ (10 * n) n (later_by w₀ a b)
-
   -- the walk stands before place p
   pub record Walking (a b : ℕ) (w₀ w : List ℕ) (sum p : ℕ) : Type 0 where
     pub from_low : a ≤ p
     pub high : p ≤ b
-    pub raising : Raising w₀ (10 * n) n (later_by w₀ a b) (later_by w₀ p b) w
-    pub count : sum + length (later_by w₀ p b) ≡ length (later_by w₀ a b)
+    pub raising : Raising w₀ (10 * n) n (later_by v n ps i low m w₀ a b) (later_by v n ps i low m w₀ p b) w
+    pub count : sum + length (later_by v n ps i low m w₀ p b) ≡ length (later_by v n ps i low m w₀ a b)
 
-  -- what the row asks: bucket c and the next one, which the stretch s gives
-  pub record Row (c : ℕ) (s : Stretch) (w₀ : List ℕ) : Type 0 where
+  -- what the row asks: its bucket and the next one, which the stretch s gives
+  pub record Row (s : Stretch) (w₀ : List ℕ) : Type 0 where
     pub laid : Laid v n ps w₀
     pub inside : i < n
-    pub bucket : c ≡ bucket_at (8 * n - 1) (row_hash (row_around v.t v n ps i m)) ((raise (get_or (frame_at v.t v n ps i) 0 (pos 0)) - v.t) / width v.t)
-    pub stretch : s ≡ stretch_in w₀ (16 * n) c (8 * n - 1)
+    pub stretch : s ≡ stretch_in w₀ (16 * n) (bucket_around v.t v n ps (8 * n - 1) i m) (8 * n - 1)
     pub room : Room w₀ (10 * n) n (later_row v n ps i low m)
 
   -- of a row what comes from a up to b, and after it up to `rest`, is still to be walked
@@ -76,10 +59,10 @@ module _ (v : ValidParams) (n : ℕ) (ps : List ℤ) (i low m : ℕ) where
     pub rest_low : rest ≤ b
     pub below : Below n (part w₀ (14 * n + a) (b - a))
     pub rest_below : Below n (part w₀ (14 * n + 0) (rest - 0))
-    pub raising : Raising w₀ (10 * n) n (later_row v n ps i low m) (later_by w₀ a b ++ later_by w₀ 0 rest) w
-    pub count : sum + length (later_by w₀ a b ++ later_by w₀ 0 rest) ≡ length (later_row v n ps i low m)
+    pub raising : Raising w₀ (10 * n) n (later_row v n ps i low m) (later_by v n ps i low m w₀ a b ++ later_by v n ps i low m w₀ 0 rest) w
+    pub count : sum + length (later_by v n ps i low m w₀ a b ++ later_by v n ps i low m w₀ 0 rest) ≡ length (later_row v n ps i low m)
 
-module _ {v : ValidParams} {n : ℕ} {ps : List ℤ} {i low m a b : ℕ} {w₀ : List ℕ} (S : Search v n ps i low m a b w₀) where
+module _ {v : ValidParams} {n : ℕ} {ps : List ℤ} {i low m a b : ℕ} {w₀ : List ℕ} (S : Countable v n ps i low m a b w₀) where
   abbrev left : ℕ → List ℕ
   left p = later_by v n ps i low m w₀ p b
 
@@ -140,18 +123,18 @@ module _ {v : ValidParams} {n : ℕ} {ps : List ℤ} {i low m a b : ℕ} {w₀ :
         (omega (arith, W.count, ap length y), raising_end W.raising y)
 
 -- ---- a row
-module _ {v : ValidParams} {n : ℕ} {ps : List ℤ} {i low m c : ℕ} {s : Stretch} {w₀ : List ℕ} (Q : Row v n ps i low m c s w₀) where
+module _ {v : ValidParams} {n : ℕ} {ps : List ℤ} {i low m : ℕ} {s : Stretch} {w₀ : List ℕ} (Q : Row v n ps i low m s w₀) where
   abbrev by : ℕ → ℕ → List ℕ
   by a b = later_by v n ps i low m w₀ a b
 
   row_is : by s.«from» s.to ++ by 0 s.rest ≡ later_row v n ps i low m
   unfolding later_row
-  row_is = sym (row_parts m Q.laid.ready Q.inside Q.laid.sorted Q.bucket Q.stretch (λ j. leb low j && neighbour (geometry_at v n ps) i j))
+  row_is = sym (row_parts m Q.laid.ready Q.inside Q.laid.sorted Q.stretch (λ j. leb low j && neighbour (geometry_at v n ps) i j))
 
   row_small : length (later_row v n ps i low m) ≤ 2 * n
   row_small =
-      let A = stretch_fits m Q.laid.ready Q.inside Q.laid.sorted Q.bucket Q.stretch in
-      let B = rest_fits m Q.laid.ready Q.inside Q.laid.sorted Q.bucket Q.stretch in
+      let A = stretch_fits m Q.laid.ready Q.inside Q.laid.sorted Q.stretch in
+      let B = rest_fits m Q.laid.ready Q.inside Q.laid.sorted Q.stretch in
       omega (
         arith,
         A.0,
@@ -168,12 +151,12 @@ module _ {v : ValidParams} {n : ℕ} {ps : List ℤ} {i low m c : ℕ} {s : Stre
 
   pub row_start : InRow v n ps i low m w₀ w₀ s.«from» s.to s.rest 0
   row_start =
-      let A = stretch_fits m Q.laid.ready Q.inside Q.laid.sorted Q.bucket Q.stretch in
-      let B = rest_fits m Q.laid.ready Q.inside Q.laid.sorted Q.bucket Q.stretch in
+      let A = stretch_fits m Q.laid.ready Q.inside Q.laid.sorted Q.stretch in
+      let B = rest_fits m Q.laid.ready Q.inside Q.laid.sorted Q.stretch in
       record {
         from_low = A.0;
         high = A.1;
-        rest_low = rest_short m Q.laid.ready Q.inside Q.laid.sorted Q.bucket Q.stretch;
+        rest_low = rest_short m Q.laid.ready Q.inside Q.laid.sorted Q.stretch;
         below = A.2;
         rest_below = B.2;
         raising = raising_left (raising_start Q.room) (sym row_is);
@@ -187,7 +170,7 @@ module _ {v : ValidParams} {n : ℕ} {ps : List ℤ} {i low m c : ℕ} {s : Stre
     pub row_length : length u ≡ length w₀
     row_length = raising_length I.raising
 
-    pub row_laid : Laid v n ps u
+    row_laid : Laid v n ps u
     row_laid = laid_raised Q.laid I.raising.done I.raising.work
 
     -- the sorted frames are as they were
@@ -197,11 +180,14 @@ module _ {v : ValidParams} {n : ℕ} {ps : List ℤ} {i low m c : ℕ} {s : Stre
     as_before : later_by v n ps i low m u from to ≡ X
     as_before = ap (keep (later_in v n ps i low m)) part_same
 
-    pub row_fits : (from ≤ to) × (to ≤ n) × Below n (part u (14 * n + from) (to - from))
+    row_fits : (from ≤ to) × (to ≤ n) × Below n (part u (14 * n + from) (to - from))
     row_fits = (I.from_low, I.high, subst (Below n) (sym part_same) I.below)
 
-    pub row_room : Room u (10 * n) n (keep (later_in v n ps i low m) (part u (14 * n + from) (to - from)))
+    row_room : Room u (10 * n) n (keep (later_in v n ps i low m) (part u (14 * n + from) (to - from)))
     row_room = subst (Room u (10 * n) n) (sym as_before) (raising_room I.raising X (by 0 rest) refl)
+
+    pub row_countable : Countable v n ps i low m from to u
+    row_countable = record { laid = row_laid; fits = row_fits; room = row_room }
 
     module _ {x : ℕ} (d : x ≡ length (keep (later_in v n ps i low m) (part u (14 * n + from) (to - from)))) where
       sums : sum + x + length (by 0 rest) ≡ length (later_row v n ps i low m)
@@ -244,10 +230,6 @@ module _ (v : ValidParams) (n : ℕ) (ps : List ℤ) (i : ℕ) where
     pub start : low ≡ low_in v n ps i m
     pub raising : Raising w₀ (10 * n) n (risen v n ps i) (later_from m ++ replicate (length (later_of v n ps i)) i) w
     pub count : sum + length (later_from m) ≡ length (later_of v n ps i)
-
--- the program's own row
-pub own_is : {v : ValidParams} {n : ℕ} {ps : List ℤ} {i : ℕ} {first : List ℕ} → Rows v.t v n ps i first → {a x : ℕ} → a ≡ width v.t → x ≡ own_block a (drop 1 first) (drop 1 (frame_at v.t v n ps i)) → x ≡ row_for v n ps i i
-own_is {v} {n} {ps} {i} {first} R e q = q ∙ ap (λ (z : ℕ). own_block z (drop 1 first) (drop 1 (frame_at v.t v n ps i))) e ∙ rows_own R ∙ own_which v.t v n ps i
 
 module _ {v : ValidParams} {n : ℕ} {ps : List ℤ} {i : ℕ} {w₀ : List ℕ} (L : Laid v n ps w₀) (C : Counts ps) (h : i < n) (r : Room w₀ (10 * n) n (risen v n ps i)) where
   abbrev own : ℕ
@@ -347,97 +329,3 @@ module _ {v : ValidParams} {n : ℕ} {ps : List ℤ} {w₀ : List ℕ} (L : Laid
 
     pub frames_end : n ≤ i → w ≡ over w₀ (10 * n) (column (others v n ps) n)
     frames_end l = raising_end I.raising (ap (λ (rs : List ℕ). concat (map (risen v n ps) rs)) (rest_end n i l)) ∙ all_counted L.ready C w₀ (omega (arith, L.fit)) z
-
--- ---- how many frames share their buckets
-module _ (w : List ℕ) (e : ℕ) where
-  squares_next : (b : ℕ) → squares_in w e (b + 1) ≡ squares_in w e b + size_in w e b * size_in w e b
-  unfolding squares_in
-  squares_next b =
-      let f : ℕ → ℕ = λ b. size_in w e b * size_in w e b in
-      ap (total f) (numbers_snoc b) ∙ total_append f (numbers b) (b ∷ []) ∙ ap (λ (x : ℕ). total f (numbers b) + x) (omega arith)
-
-  -- a later bucket begins where the one before it ends
-  begin_is : (b : ℕ) → 1 ≤ b → begin_in w e b ≡ get_or w (e + b - 1) 0
-  begin_is b h =
-      let z : e + (b - 1) ≡ e + b - 1 = omega arith in
-      begin_later w e b (λ t. omega arith) ∙ ap (λ (x : ℕ). get_or w x 0) z
-
--- the buckets before b
-pub record Shared (w : List ℕ) (e n sum b : ℕ) : Type 0 where
-  pub some : 1 ≤ b
-  pub high : b ≤ 8 * n
-  pub squares : sum ≡ squares_in w e b
-  pub low : sum ≤ get_or w (e + b - 1) 0 * get_or w (e + b - 1) 0
-  pub most : get_or w (e + b - 1) 0 ≤ 4096
-
-module _ {w : List ℕ} {e n : ℕ} (few : n ≤ 4096) (rising : (b : ℕ) → b < 8 * n → (begin_in w e b ≤ get_or w (e + b) 0) × (get_or w (e + b) 0 ≤ n)) where
-  pub shared_start : 0 < n → {sum : ℕ} → sum ≡ get_or w e 0 * get_or w e 0 → Shared w e n sum 1
-  unfolding squares_in size_in
-  shared_start h {sum} q =
-      let z : e + 1 - 1 ≡ e = omega arith in
-      let y : e + 0 ≡ e = omega arith in
-      let size : size_in w e 0 ≡ get_or w e 0 = omega (arith, begin_first w e 0 refl, ap (λ (x : ℕ). get_or w x 0) y) in
-      record {
-        some = omega arith;
-        high = omega arith;
-        squares = q ∙ sym (omega (arith, ap (λ (x : ℕ). x * x) size));
-        low = subst (λ (x : ℕ). sum ≤ get_or w x 0 * get_or w x 0) (sym z) (omega (arith, q));
-        most = omega (arith, ap (λ (x : ℕ). get_or w x 0) z, ap (λ (x : ℕ). get_or w x 0) y, (rising 0 (omega arith)).1);
-      }
-
-  module _ {sum b : ℕ} (I : Shared w e n sum b) (l : b < 8 * n) where
-    abbrev begin : ℕ
-    begin = get_or w (e + b - 1) 0
-
-    abbrev end : ℕ
-    end = get_or w (e + b) 0
-
-    pub shared_low : get_or w (e + b - 1) 0 ≤ get_or w (e + b) 0
-    shared_low = omega (arith, begin_is w e b I.some, (rising b l).0)
-
-    size : end - begin ≡ size_in w e b
-    unfolding size_in
-    size = ap (λ (x : ℕ). end - x) (sym (begin_is w e b I.some))
-
-    more : sum + (end - begin) * (end - begin) ≤ end * end
-    more = go begin (end - begin) (omega (arith, shared_low)) I.low
-      where
-        go : (a d : ℕ) → a + d ≡ end → sum ≤ a * a → sum + d * d ≤ end * end
-        go a d z k = subst (λ (x : ℕ). sum + d * d ≤ x * x) z (omega (arith, mul-add (a + d) a d, add-mul a d a, add-mul a d d))
-
-    most : end ≤ 4096
-    most = omega (arith, (rising b l).1)
-
-    module _ {x : ℕ} (q : x ≡ (get_or w (e + b) 0 - get_or w (e + b - 1) 0) * (get_or w (e + b) 0 - get_or w (e + b - 1) 0)) where
-      pub shared_fits : sum + x ≤ 16777216
-      shared_fits = omega (arith, q, more, mul-le-mul {n₂ = 4096} {m₂ = 4096} most most)
-
-      pub shared_next : Shared w e n (sum + x) (b + 1)
-      shared_next =
-          let z : e + (b + 1) - 1 ≡ e + b = omega arith in
-          record {
-            some = omega arith;
-            high = omega arith;
-            squares = ap₂ (λ (x y : ℕ). x + y) I.squares (q ∙ ap (λ (y : ℕ). y * y) size) ∙ sym (squares_next w e b);
-            low = subst (λ (y : ℕ). sum + x ≤ get_or w y 0 * get_or w y 0) (sym z) (omega (arith, q, more));
-            most = omega (arith, ap (λ (y : ℕ). get_or w y 0) z, most);
-          }
-
-pub shared_sum : {w : List ℕ} {e n sum b : ℕ} → Shared w e n sum b → sum ≤ 16777216
-shared_sum I = omega (arith, I.low, mul-le-mul {n₂ = 4096} {m₂ = 4096} I.most I.most)
-
-pub shared_end : {w : List ℕ} {e n sum b : ℕ} → Shared w e n sum b → 8 * n ≤ b → sum ≡ squares_in w e (8 * n)
-shared_end {w} {e} {n} {b = b} I l =
-    let z : b ≡ 8 * n = omega (arith, I.high) in
-    I.squares ∙ ap (squares_in w e) z
-
--- no frames
-pub shared_none : (w : List ℕ) (e n : ℕ) → n ≡ 0 → true ≡ leb (squares_in w e (8 * n)) (4 * n)
-unfolding squares_in
-shared_none w e n h = ap (λ (m : ℕ). leb (squares_in w e (8 * m)) (4 * m)) (sym h)
-
--- the ends of the sorted frames rise
-pub ends_rise : {key : ℕ → ℕ} {n size e places : ℕ} {w : List ℕ} → Sorted key n size e places w → (b : ℕ) → b < size → (begin_in w e b ≤ get_or w (e + b) 0) × (get_or w (e + b) 0 ≤ n)
-ends_rise {key} {n} {size} {e} {places} {w} S b h =
-    let d = holds_at w e size (λ b. start_of key n (b + 1)) b S.ends h in
-    (omega (arith, d, begin_at S b (omega arith), start_mono key n b (b + 1) (omega arith)), omega (arith, d, start_le key n (b + 1)))

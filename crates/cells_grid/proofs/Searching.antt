@@ -3,88 +3,77 @@ use mathlib.Core.Path.{◌≡◌, refl, sym, ap, ap₂, subst, ◌∙◌}
 use mathlib.Core.Logic.{inr}
 use mathlib.Core.Bool.{Bool, true, false, not, ◌&&◌, cond, and-true, and-false}
 use mathlib.Core.List.{List, [], ◌∷◌, ◌++◌, append_assoc, append-nil}
-use Prim.Native.Nat.{ℕ, zero, suc, ◌+◌, ◌-◌, ◌*◌, ◌/◌, ◌%◌, ◌<◌, ◌≤◌}
+use Prim.Native.Nat.{ℕ, zero, suc, ◌+◌, ◌-◌, ◌*◌, ◌<◌, ◌≤◌}
 use native.Mathlib.Decide.{dec_lt}
 use native.Mathlib.Omega.{arith}
-use lib.IntN.{ℤ, pos}
+use lib.IntN.{ℤ}
 use lib.Dec.{eqb}
-use lib.ListN.{length, get_or, set, take, drop, length-append}
+use lib.ListN.{length, get_or, set, length-append}
 use borrow.Author.Tests.{eq-eqb, ne_eqb, le-leb, lt-leb}
 use Rattle.lists.specs.Lists.{keep, In}
 use Rattle.lists.specs.Words.{over, part}
-use Rattle.lists.specs.Sorting.{numbered}
 use Rattle.lists.specs.ListLaws.{append_one, append_two}
 use Rattle.lists.specs.CountLaws.{keep_append}
 use Rattle.lists.proofs.WordLaws.{over_length, over_nil, over_snoc, over_next}
 use Rattle.lists.proofs.PartLaws.{get_under, part_step, part_under}
 use Rattle.hyperparams.specs.declared.ValidParams.{ValidParams}
-use Rattle.counting_tree.specs.Geometry.{Geometry}
-use Rattle.counting_tree.specs.Ready.{geometry_at, Ready, at_frames}
+use Rattle.counting_tree.specs.Ready.{geometry_at, at_frames}
 use Rattle.blocks.specs.declared.Stretch.{Stretch}
-use Rattle.blocks.specs.Blocks.{raise, width, key_of, shifted, same_nats, row_hash, bucket_at, stretch_in, frame_at, row_of, row_around, bucket_around, pair_at, found_in}
-use Rattle.blocks.specs.AroundLaws.{Rows, rows_row, rows_along}
+use Rattle.blocks.specs.Blocks.{same_nats, stretch_in, row_of, row_around, bucket_around, pair_at, found_in}
+use Rattle.blocks.specs.RowLaws.{around_low}
 use Rattle.blocks.specs.SortedLaws.{Stretched, stretch_holds}
 use Rattle.cells_grid.specs.Cells.{cells}
-use Rattle.cells_grid.specs.Arrangement.{cell_at, Arranged}
+use Rattle.cells_grid.specs.Arrangement.{cell_at}
 use Rattle.cells_grid.specs.Ready.{ready_lawful}
 use Rattle.cells_grid.proofs.ArrangementLaws.{words_room, first_word, first_word_low, arranged_over}
-use Rattle.cells_grid.specs.Listing.{reach_of, unmarked, cell_key, near_at, near_in, list_in, CellsSorted, MarkedRuns}
+use Rattle.cells_grid.specs.Listing.{reach_of, unmarked, cell_buckets, cell_key, near_at, near_in, near_by, list_in, CellsLaid, Listable}
 use Rattle.cells_grid.proofs.ListingLaws.{unmarked_more, unmarked_append, unmarked_over, few, in_below, cells_sorted_over, sorted_cell, marked_runs_over}
 
-module _ {v : ValidParams} {n : ℕ} {ps : List ℤ} {i : ℕ} {first : List ℕ} (R : Rows (reach_of v) v n ps i first) where
-  -- ---- whether a cell is found: its number first, then whether its first frame j is near, then its row
-  module _ {w : List ℕ} (A : Arranged (geometry_at v n ps) (length (cells (geometry_at v n ps))) w) {d : ℕ} (h : d < length (cells (geometry_at v n ps))) where
-    pub found_room : n + d < length w
-    found_room = omega (arith, words_room (geometry_at v n ps) (ready_lawful R.ready) A n (at_frames v n ps), few R.ready)
+-- ---- the list is written: what else the words hold stays
+pub laid_over : {v : ValidParams} {n : ℕ} {ps : List ℤ} {marks mark : ℕ} {w : List ℕ} → CellsLaid v n ps marks mark w → (b : ℕ) (ds : List ℕ) → 15 * n ≤ b → b + length ds ≤ 16 * n → CellsLaid v n ps marks mark (over w b ds)
+laid_over {v} {n} {ps} {marks} {mark} {w} L b ds low h = record {
+  ready = L.ready;
+  arranged = arranged_over (geometry_at v n ps) b ds (omega (arith, at_frames v n ps)) (omega (arith, L.fit)) L.arranged;
+  sorted = cells_sorted_over L.ready b ds (omega (arith, L.fit)) (inr low) L.sorted;
+  fit = omega (arith, L.fit, over_length w b ds (omega (arith, L.fit)));
+  apart = L.apart;
+  runs = marked_runs_over L.ready L.sorted marks (omega arith) L.apart L.runs b ds low (omega (arith, L.fit));
+}
 
-    module _ {j : ℕ} (e : j ≡ get_or w (n + d) 0) where
-      first_is : j ≡ cell_at (geometry_at v n ps) d
-      first_is = e ∙ first_word (geometry_at v n ps) (ready_lawful R.ready) A n (at_frames v n ps) d h
+-- ---- whether a cell is found: its number first, then whether its first frame j is near, then its row
+module _ {v : ValidParams} {n : ℕ} {ps : List ℤ} {marks mark : ℕ} {w : List ℕ} (L : CellsLaid v n ps marks mark w) {d : ℕ} (h : d < length (cells (geometry_at v n ps))) where
+  pub found_room : n + d < length w
+  found_room = omega (arith, words_room (geometry_at v n ps) (ready_lawful L.ready) L.arranged n (at_frames v n ps), few L.ready)
 
-      pub found_below : j < n
-      found_below = omega (arith, e, first_word_low (geometry_at v n ps) (ready_lawful R.ready) A n (at_frames v n ps) d h)
+  module _ {j : ℕ} (e : j ≡ get_or w (n + d) 0) where
+    first_is : j ≡ cell_at (geometry_at v n ps) d
+    first_is = e ∙ first_word (geometry_at v n ps) (ready_lawful L.ready) L.arranged n (at_frames v n ps) d h
 
-    module _ (after r : ℕ) where
-      abbrev S : Bool
-      S = same_nats (row_of (reach_of v) v n ps (cell_at (geometry_at v n ps) d)) (row_around (reach_of v) v n ps i r)
+    pub found_below : j < n
+    found_below = omega (arith, e, first_word_low (geometry_at v n ps) (ready_lawful L.ready) L.arranged n (at_frames v n ps) d h)
 
-      pub found_before : d < after → false ≡ near_in v n ps i after r d
-      found_before a = sym (ap (λ (z : Bool). S && (z && near_at v n ps i d)) (lt-leb after d a) ∙ and-false S)
+  module _ (i after r : ℕ) where
+    abbrev S : Bool
+    S = same_nats (row_of (reach_of v) v n ps (cell_at (geometry_at v n ps) d)) (row_around (reach_of v) v n ps i r)
 
-      module _ (a : after ≤ d) {j : ℕ} (e : j ≡ get_or w (n + d) 0) {t : Bool} (l : t ≡ (geometry_at v n ps).near i j) where
-        unless : {b : Bool} → b ≡ S && t → b ≡ near_in v n ps i after r d
-        unless k = k ∙ ap (λ (z : Bool). S && z) (l ∙ ap ((geometry_at v n ps).near i) (first_is e) ∙ sym (ap (λ (z : Bool). z && near_at v n ps i d) (le-leb after d a)))
+    pub found_before : d < after → false ≡ near_in v n ps i after r d
+    found_before a = sym (ap (λ (z : Bool). S && (z && near_at v n ps i d)) (lt-leb after d a) ∙ and-false S)
 
-        pub found_near : t ≡ true → {a : ℕ} {b : Bool} → a ≡ width (reach_of v) → b ≡ same_nats (key_of a (drop 1 (frame_at (reach_of v) v n ps j))) (shifted a (take (v.channels - 1) (drop 1 first)) r)
-            → b ≡ near_in v n ps i after r d
-        found_near k {a} {b} y s = unless (s
-            ∙ ap (λ (z : ℕ). same_nats (key_of z (drop 1 (frame_at (reach_of v) v n ps j))) (shifted z (take (v.channels - 1) (drop 1 first)) r)) y
-            ∙ ap₂ (λ (u : ℕ) (l : List ℕ). same_nats (row_of (reach_of v) v n ps u) l) (first_is e) (rows_row R r)
-            ∙ sym (ap (λ (z : Bool). S && z) k ∙ and-true S))
+    module _ (a : after ≤ d) {j : ℕ} (e : j ≡ get_or w (n + d) 0) {t : Bool} (l : t ≡ (geometry_at v n ps).near i j) where
+      unless : {b : Bool} → b ≡ S && t → b ≡ near_in v n ps i after r d
+      unless k = k ∙ ap (λ (z : Bool). S && z) (l ∙ ap ((geometry_at v n ps).near i) (first_is e) ∙ sym (ap (λ (z : Bool). z && near_at v n ps i d) (le-leb after d a)))
 
-        pub found_far : t ≡ false → false ≡ near_in v n ps i after r d
-        found_far k = unless (sym (ap (λ (z : Bool). S && z) k ∙ and-false S))
+      pub found_near : t ≡ true → {b : Bool} → b ≡ same_nats (row_of (reach_of v) v n ps j) (row_around (reach_of v) v n ps i r) → b ≡ near_in v n ps i after r d
+      found_near k s = unless (s ∙ ap (λ (u : ℕ). same_nats (row_of (reach_of v) v n ps u) (row_around (reach_of v) v n ps i r)) (first_is e) ∙ sym (ap (λ (z : Bool). S && z) k ∙ and-true S))
+
+      pub found_far : t ≡ false → t ≡ near_in v n ps i after r d
+      found_far k = k ∙ unless (sym (ap (λ (z : Bool). S && z) k ∙ and-false S))
 
 -- ---- a stretch
 module _ (v : ValidParams) (n : ℕ) (ps : List ℤ) where
-  -- of the sorted cells from `a` up to `b` those with numbers from `after` on that lie in row r around frame i, and near it
-  abbrev pub near_by : (i after r : ℕ) → List ℕ → (a b : ℕ) → List ℕ
-  near_by i after r w a b = keep (near_in v n ps i after r) (part w (14 * n + a) (b - a))
-
-  -- and of these the unmarked ones
+  -- of the cells of a stretch the unmarked ones
   abbrev pub stretch : (i after r : ℕ) → List ℕ → (marks mark a b : ℕ) → List ℕ
-  stretch i after r w marks mark a b = unmarked w marks mark (near_by i after r w a b)
-
-  -- they are listed from place m of the list on
-  pub record Search (i after r marks mark m a b : ℕ) (w₀ : List ℕ) : Type 0 where
-    pub ready : Ready ps v n
-    pub arranged : Arranged (geometry_at v n ps) (length (cells (geometry_at v n ps))) w₀
-    pub sorted : CellsSorted v n ps w₀
-    pub fit : 16 * n ≤ length w₀
-    pub apart : marks + n ≤ 10 * n
-    pub high : b ≤ length (cells (geometry_at v n ps))
-    pub room : m + length (stretch i after r w₀ marks mark a b) ≤ n
-    pub runs : MarkedRuns w₀ n (length (cells (geometry_at v n ps))) marks mark
+  stretch i after r w marks mark a b = unmarked w marks mark (near_by v n ps i after r w a b)
 
   -- the walk stands before p, which a run may lead past b: the cells `done` are listed
   pub record Walking (i after r marks mark m a b : ℕ) (w₀ w : List ℕ) (to p : ℕ) : Type 0 where
@@ -101,9 +90,9 @@ module _ (v : ValidParams) (n : ℕ) (ps : List ℤ) where
     pub done : List ℕ
     pub count : more ≡ m + length (unmarked w₀ marks mark done)
     pub laid : w ≡ over w₀ (15 * n + m) (unmarked w₀ marks mark done)
-    pub left : done ++ (near_by i after r w₀ a b ++ near_by i after r w₀ 0 rest) ≡ list_in v n ps i after r
+    pub left : done ++ (near_by v n ps i after r w₀ a b ++ near_by v n ps i after r w₀ 0 rest) ≡ list_in v n ps i after r
 
-module _ {v : ValidParams} {n : ℕ} {ps : List ℤ} {i after r marks mark m a b : ℕ} {w₀ : List ℕ} (S : Search v n ps i after r marks mark m a b w₀) where
+module _ {v : ValidParams} {n : ℕ} {ps : List ℤ} {i after r marks mark m a b : ℕ} {w₀ : List ℕ} (S : Listable v n ps marks mark i after r m a b w₀) where
   abbrev all : List ℕ
   all = stretch v n ps i after r w₀ marks mark a b
 
@@ -122,7 +111,7 @@ module _ {v : ValidParams} {n : ℕ} {ps : List ℤ} {i after r marks mark m a b
 
   step : (q : ℕ) → q < b → coming q ≡ cond (not (eqb (get_or w₀ (marks + cell q) 0) mark) && near_in v n ps i after r (cell q)) (cell q ∷ coming (q + 1)) (coming (q + 1))
   step q h =
-      ap (λ (l : List ℕ). unmarked w₀ marks mark (keep (near_in v n ps i after r) l)) (part_step w₀ (14 * n) b q (omega (arith, S.high, few S.ready, S.fit)) h)
+      ap (λ (l : List ℕ). unmarked w₀ marks mark (keep (near_in v n ps i after r) l)) (part_step w₀ (14 * n) b q (omega (arith, S.high, few S.laid.ready, S.laid.fit)) h)
       ∙ unmarked_more w₀ marks mark (near_in v n ps i after r (cell q)) (cell q) (keep (near_in v n ps i after r) (part w₀ (14 * n + (q + 1)) (b - (q + 1))))
 
   -- a marked cell is none of them, nor are j marked ones in a row
@@ -151,18 +140,18 @@ module _ {v : ValidParams} {n : ℕ} {ps : List ℤ} {i after r marks mark m a b
     walking_low = omega (arith, W.count, some, S.room)
 
     pub walking_length : length w ≡ length w₀
-    walking_length = ap length W.laid ∙ over_length w₀ (15 * n + m) W.done (omega (arith, some, S.room, S.fit))
+    walking_length = ap length W.laid ∙ over_length w₀ (15 * n + m) W.done (omega (arith, some, S.room, S.laid.fit))
 
-    pub walking_arranged : Arranged (geometry_at v n ps) (length (cells (geometry_at v n ps))) w
-    walking_arranged = subst (Arranged (geometry_at v n ps) (length (cells (geometry_at v n ps)))) (sym W.laid) (arranged_over (geometry_at v n ps) (15 * n + m) W.done (omega (arith, at_frames v n ps)) (omega (arith, S.fit, S.room)) S.arranged)
+    pub walking_laid : CellsLaid v n ps marks mark w
+    walking_laid = subst (CellsLaid v n ps marks mark) (sym W.laid) (laid_over S.laid (15 * n + m) W.done (omega arith) (omega (arith, some, S.room)))
 
     -- a word below the list is as it was
     word_same : (x : ℕ) → x < 15 * n → get_or w x 0 ≡ get_or w₀ x 0
-    word_same x h = ap (λ (z : List ℕ). get_or z x 0) W.laid ∙ get_under w₀ (15 * n + m) x W.done (omega arith) (omega (arith, some, S.room, S.fit))
+    word_same x h = ap (λ (z : List ℕ). get_or z x 0) W.laid ∙ get_under w₀ (15 * n + m) x W.done (omega arith) (omega (arith, some, S.room, S.laid.fit))
 
     module _ (more : p < b) where
       pub walking_place : p < n
-      walking_place = omega (arith, S.high, few S.ready)
+      walking_place = omega (arith, S.high, few S.laid.ready)
 
       pub walking_word : {l : ℕ} → l ≡ get_or w (8 * n + p) 0 → l ≡ get_or w₀ (8 * n + p) 0
       walking_word f = f ∙ word_same (8 * n + p) (omega (arith, walking_place))
@@ -172,25 +161,25 @@ module _ {v : ValidParams} {n : ℕ} {ps : List ℤ} {i after r marks mark m a b
         was = e ∙ word_same (14 * n + p) (omega (arith, walking_place))
 
         pub walking_cell : d < length (cells (geometry_at v n ps))
-        walking_cell = omega (arith, was, sorted_cell S.ready S.sorted p (omega (arith, S.high)))
+        walking_cell = omega (arith, was, sorted_cell S.laid.ready S.laid.sorted p (omega (arith, S.high)))
 
         pub walking_mark : marks + d < length w
-        walking_mark = omega (arith, walking_cell, few S.ready, walking_length, S.apart, S.fit)
+        walking_mark = omega (arith, walking_cell, few S.laid.ready, walking_length, S.laid.apart, S.laid.fit)
 
         module _ {x : ℕ} (y : x ≡ get_or w (marks + d) 0) where
           -- the marks lie below the list, so they are as they were
           mark_was : x ≡ get_or w₀ (marks + cell p) 0
-          mark_was = y ∙ word_same (marks + d) (omega (arith, walking_cell, few S.ready, S.apart)) ∙ ap (λ (z : ℕ). get_or w₀ (marks + z) 0) was
+          mark_was = y ∙ word_same (marks + d) (omega (arith, walking_cell, few S.laid.ready, S.laid.apart)) ∙ ap (λ (z : ℕ). get_or w₀ (marks + z) 0) was
 
           -- a marked cell is passed, and its run
-          pub walking_run : x ≡ mark → {l : ℕ} → l ≡ get_or w (8 * n + p) 0 → Walking v n ps i after r marks mark m a b w₀ w to (p + 1 + l)
+          pub walking_run : x ≡ mark → {l : ℕ} → l ≡ get_or w (8 * n + p) 0 → Walking v n ps i after r marks mark m a b w₀ w to (p + (1 + l))
           walking_run t {l} f =
-              let c : p + suc l ≡ p + 1 + l = omega arith in
+              let c : p + suc l ≡ p + (1 + l) = omega arith in
               record {
                 done = W.done;
                 count = W.count;
                 laid = W.laid;
-                left = ap (λ (z : List ℕ). W.done ++ z) (sym (marked_steps (suc l) p (λ z h k. S.runs p z (omega (arith, S.high)) (sym mark_was ∙ t) (omega (arith, walking_word f))) ∙ ap coming c)) ∙ W.left;
+                left = ap (λ (z : List ℕ). W.done ++ z) (sym (marked_steps (suc l) p (λ z h k. S.laid.runs p z (omega (arith, S.high)) (sym mark_was ∙ t) (omega (arith, walking_word f))) ∙ ap coming c)) ∙ W.left;
               }
 
           module _ (u : x ≡ mark → ⊥) {t : Bool} (h : t ≡ near_in v n ps i after r d) where
@@ -217,7 +206,7 @@ module _ {v : ValidParams} {n : ℕ} {ps : List ℤ} {i after r marks mark m a b
                 done = W.done ++ (d ∷ []);
                 count = omega (arith, W.count, length-append W.done (d ∷ []));
                 laid = ap (λ (z : List ℕ). set z (15 * n + to) d) W.laid
-                    ∙ over_snoc w₀ (15 * n + m) (15 * n + to) W.done d (omega (arith, W.count)) (omega (arith, walking_room, S.fit));
+                    ∙ over_snoc w₀ (15 * n + m) (15 * n + to) W.done d (omega (arith, W.count)) (omega (arith, walking_room, S.laid.fit));
                 left = append_assoc W.done (d ∷ []) (coming (p + 1)) ∙ ap (λ (l : List ℕ). W.done ++ l) (sym (now_left f)) ∙ W.left;
               }
 
@@ -227,48 +216,26 @@ module _ {v : ValidParams} {n : ℕ} {ps : List ℤ} {i after r marks mark m a b
         (W.count ∙ ap (λ (q : List ℕ). m + length q) l, W.laid ∙ ap (over w₀ (15 * n + m)) l)
 
 -- ---- a row: the cells of a bucket and of the next one
--- row r around frame i is searched in bucket b and the next one, of 4 × k − 1, which the stretch s gives
-pub record Row (v : ValidParams) (n : ℕ) (ps : List ℤ) (k i after r along h marks mark m b : ℕ) (first w : List ℕ) (s : Stretch) : Type 0 where
-  pub rows : Rows (reach_of v) v n ps i first
-  pub arranged : Arranged (geometry_at v n ps) k w
-  pub sorted : CellsSorted v n ps w
-  pub fit : 16 * n ≤ length w
-  pub apart : marks + n ≤ 10 * n
-  pub least : 0 < k
-  pub hash : h ≡ row_hash (row_around (reach_of v) v n ps i r)
-  pub block : along ≡ get_or first 0 0 / width (reach_of v)
+-- row r around frame i is searched in its bucket and the next one, which the stretch s gives
+pub record Row (v : ValidParams) (n : ℕ) (ps : List ℤ) (i after r marks mark m : ℕ) (w : List ℕ) (s : Stretch) : Type 0 where
+  pub laid : CellsLaid v n ps marks mark w
+  pub least : 0 < length (cells (geometry_at v n ps))
   pub room : m + length (unmarked w marks mark (list_in v n ps i after r)) ≤ n
-  pub bucket : b ≡ bucket_at (4 * k - 1) h along
-  pub low : b < 4 * k - 1
-  pub runs : MarkedRuns w n k marks mark
-  pub found : s ≡ stretch_in w (10 * n) b (4 * k - 1)
+  pub found : s ≡ stretch_in w (10 * n) (bucket_around (reach_of v) v n ps (cell_buckets v n ps) i r) (cell_buckets v n ps)
 
-module _ {v : ValidParams} {n : ℕ} {ps : List ℤ} {k i after r along h marks mark m b : ℕ} {first w : List ℕ} {s : Stretch} (Q : Row v n ps k i after r along h marks mark m b first w s) where
-  abbrev g : Geometry
-  g = geometry_at v n ps
-
+module _ {v : ValidParams} {n : ℕ} {ps : List ℤ} {i after r marks mark m : ℕ} {w : List ℕ} {s : Stretch} (Q : Row v n ps i after r marks mark m w s) where
   abbrev K : ℕ
-  K = length (cells g)
+  K = length (cells (geometry_at v n ps))
 
-  row_holds : Stretched (cell_key v n ps) (length (cells (geometry_at v n ps))) (14 * n) b (4 * k - 1) w s
-  row_holds = stretch_holds Q.sorted (omega (arith, Q.arranged.count, Q.least)) Q.low Q.found
-
-  abbrev B : ℕ
-  B = bucket_around (reach_of v) v n ps (4 * K - 1) i r
-
-  bucket_is : b ≡ B
-  unfolding bucket_around
-  bucket_is = Q.bucket
-      ∙ ap₂ (λ (x y : ℕ). bucket_at (4 * k - 1) x y) Q.hash (Q.block ∙ rows_along Q.rows)
-      ∙ ap (λ (x : ℕ). bucket_at (4 * x - 1) (row_hash (row_around (reach_of v) v n ps i r)) ((raise (get_or (frame_at (reach_of v) v n ps i) 0 (pos 0)) - reach_of v) / width (reach_of v))) Q.arranged.count
+  row_holds : Stretched (cell_key v n ps) K (14 * n) (bucket_around (reach_of v) v n ps (4 * K - 1) i r) (4 * K - 1) w s
+  row_holds = stretch_holds Q.laid.sorted (omega (arith, Q.least)) (around_low (reach_of v) v n ps (4 * K - 1) (omega (arith, Q.least)) i r) Q.found
 
   abbrev near : ℕ → ℕ → List ℕ
   near = near_by v n ps i after r w
 
   row_is : near s.«from» s.to ++ near 0 s.rest ≡ list_in v n ps i after r
   unfolding list_in found_in pair_at
-  row_is = sym (keep_append (near_in v n ps i after r) (part w (14 * n + s.«from») (s.to - s.«from»)) (part w (14 * n + 0) (s.rest - 0)))
-      ∙ ap (keep (near_in v n ps i after r)) (row_holds.both ∙ ap₂ (λ (x y : ℕ). numbered (cell_key v n ps) K x ++ numbered (cell_key v n ps) K ((x + 1) % (4 * y - 1))) bucket_is Q.arranged.count)
+  row_is = sym (keep_append (near_in v n ps i after r) (part w (14 * n + s.«from») (s.to - s.«from»)) (part w (14 * n + 0) (s.rest - 0))) ∙ ap (keep (near_in v n ps i after r)) row_holds.both
 
   pub row_start : InRow v n ps i after r marks mark m w w s.«from» s.to s.rest m
   unfolding unmarked
@@ -289,29 +256,26 @@ module _ {v : ValidParams} {n : ℕ} {ps : List ℤ} {k i after r along h marks 
         ∙ length-append D (X ++ free (near 0 rest)) ∙ ap (λ (x : ℕ). length D + x) (length-append X (free (near 0 rest))))
 
     pub row_length : length u ≡ length w
-    row_length = ap length I.laid ∙ over_length w (15 * n + m) D (omega (arith, Q.fit, Q.room, sizes))
-
-    pub row_arranged : Arranged (geometry_at v n ps) (length (cells (geometry_at v n ps))) u
-    row_arranged = subst (λ (x : ℕ). Arranged g x u) Q.arranged.count (subst (Arranged g k) (sym I.laid) (arranged_over g (15 * n + m) D (omega (arith, at_frames v n ps)) (omega (arith, Q.fit, Q.room)) Q.arranged))
-
-    pub row_sorted : CellsSorted v n ps u
-    row_sorted = subst (CellsSorted v n ps) (sym I.laid) (cells_sorted_over Q.rows.ready (15 * n + m) D (omega (arith, Q.fit, Q.room)) (inr (omega arith)) Q.sorted)
-
-    pub row_runs : MarkedRuns u n (length (cells (geometry_at v n ps))) marks mark
-    row_runs = subst (λ (x : ℕ). MarkedRuns u n x marks mark) Q.arranged.count (subst (λ (z : List ℕ). MarkedRuns z n k marks mark) (sym I.laid)
-        (marked_runs_over Q.rows.ready Q.sorted marks (omega (arith, Q.arranged.count)) Q.apart Q.runs (15 * n + m) D (omega arith) (omega (arith, Q.fit, Q.room))))
+    row_length = ap length I.laid ∙ over_length w (15 * n + m) D (omega (arith, Q.laid.fit, Q.room, sizes))
 
     -- the sorted cells and the marks lie below the list, so they are as they were
     as_before : stretch v n ps i after r u marks mark from to ≡ X
     as_before =
         ap (λ (x : List ℕ). stretch v n ps i after r x marks mark from to) I.laid
-        ∙ ap (λ (x : List ℕ). unmarked (over w (15 * n + m) D) marks mark (keep (near_in v n ps i after r) x)) (part_under w (14 * n + from) (to - from) (15 * n + m) D (omega (arith, I.low, I.high, few Q.rows.ready)) (omega (arith, Q.fit, Q.room)))
+        ∙ ap (λ (x : List ℕ). unmarked (over w (15 * n + m) D) marks mark (keep (near_in v n ps i after r) x)) (part_under w (14 * n + from) (to - from) (15 * n + m) D (omega (arith, I.low, I.high, few Q.laid.ready)) (omega (arith, Q.laid.fit, Q.room)))
         ∙ unmarked_over w marks mark n (15 * n + m) D (near from to)
-        (λ x l. omega (arith, in_below Q.rows.ready i after r x (subst (In x) I.left (append_two x I.done (near from to ++ near 0 rest) (append_one x (near from to) (near 0 rest) l))), few Q.rows.ready))
-        (omega (arith, Q.apart)) (omega (arith, Q.fit, Q.room))
+        (λ x l. omega (arith, in_below Q.laid.ready i after r x (subst (In x) I.left (append_two x I.done (near from to ++ near 0 rest) (append_one x (near from to) (near 0 rest) l))), few Q.laid.ready))
+        (omega (arith, Q.laid.apart)) (omega (arith, Q.laid.fit, Q.room))
 
-    pub row_room : more + length (stretch v n ps i after r u marks mark from to) ≤ n
+    row_room : more + length (stretch v n ps i after r u marks mark from to) ≤ n
     row_room = omega (arith, I.count, Q.room, sizes, ap length as_before)
+
+    pub row_listable : Listable v n ps marks mark i after r more from to u
+    row_listable = record {
+      laid = subst (CellsLaid v n ps marks mark) (sym I.laid) (laid_over Q.laid (15 * n + m) D (omega arith) (omega (arith, Q.room, sizes)));
+      high = I.high;
+      room = row_room;
+    }
 
     pub row_next : {t : ℕ} {x : List ℕ} → t ≡ more + length (stretch v n ps i after r u marks mark from to) → x ≡ over u (15 * n + more) (stretch v n ps i after r u marks mark from to) → InRow v n ps i after r marks mark m w x 0 rest 0 t
     row_next {t} {x} p q =
@@ -323,7 +287,7 @@ module _ {v : ValidParams} {n : ℕ} {ps : List ℤ} {k i after r along h marks 
           done = I.done ++ near from to;
           count = omega (arith, p, I.count, ap length as_before, ap length e, length-append D X);
           laid = q ∙ ap₂ (λ (z l : List ℕ). over z (15 * n + more) l) I.laid as_before
-              ∙ over_next w (15 * n + m) (15 * n + more) D X (omega (arith, I.count)) (omega (arith, I.count, Q.fit, Q.room, sizes))
+              ∙ over_next w (15 * n + m) (15 * n + more) D X (omega (arith, I.count)) (omega (arith, I.count, Q.laid.fit, Q.room, sizes))
               ∙ ap (over w (15 * n + m)) (sym e);
           left = append_assoc I.done (near from to) (near 0 rest ++ [])
               ∙ ap (λ (l : List ℕ). I.done ++ (near from to ++ l)) (append-nil (near 0 rest)) ∙ I.left;

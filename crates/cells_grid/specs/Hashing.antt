@@ -1,5 +1,5 @@
 -- Cells by their indexes while frames are inserted: the bucket in which the indexes of a frame fall, and the words in which those of a cell stand. Definitions only.
-use Rattle.std.specs.Prelude.{◌≡◌, Bool, ℕ, zero, suc, ◌+◌, ◌-◌, ◌*◌, ◌/◌, ◌%◌, ◌<◌, ℤ, pos, negsuc, get_or}
+use Rattle.std.specs.Prelude.{◌≡◌, Bool, Option, Some, None, ℕ, zero, suc, ◌+◌, ◌-◌, ◌*◌, ◌/◌, ◌%◌, ◌<◌, ℤ, pos, negsuc, get_or}
 use Rattle.std.proofs.Math.Bool.{cond}
 use mathlib.Core.List.{List, [], ◌∷◌, map}
 use Rattle.lists.specs.Lists.{numbers, how_many}
@@ -33,10 +33,10 @@ number_at w at = get_or w at 0 + 65536 * get_or w (at + 1) 0
 abbrev pub numbers_at : List ℕ → ℕ → List ℕ
 numbers_at w at = number_at w at ∷ number_at w (at + 2) ∷ number_at w (at + 4) ∷ number_at w (at + 6) ∷ []
 
--- one less than a number, and k for 0
-abbrev pub less_one : ℕ → ℕ → ℕ
-less_one k zero = k
-less_one k (suc c) = c
+-- one less than a number, if it isn't 0
+abbrev pub less_one : ℕ → Option ℕ
+less_one zero = None
+less_one (suc c) = Some c
 
 -- ---- n frames; from 16n on the words w hold the indexes of each cell
 module _ (w : List ℕ) (n : ℕ) where
@@ -48,9 +48,9 @@ module _ (w : List ℕ) (n : ℕ) where
   abbrev pub bucket_in : ℕ → ℕ
   bucket_in c = bucket n (hash_of (numbers_at w (16 * n + 8 * c)))
 
-  -- which of the first k cells has the indexes `of`: k where none has them
-  abbrev pub cell_in : ℕ → List ℕ → ℕ
-  cell_in k of = less_one k (last_with (has_indexes of) k)
+  -- which of the first k cells has the indexes `of`
+  abbrev pub cell_in : ℕ → List ℕ → Option ℕ
+  cell_in k of = less_one (last_with (has_indexes of) k)
 
 module _ (v : ValidParams) (n : ℕ) (ps : List ℤ) where
   -- frame i's indexes at the base side as numbers, zeros in the channels that are not used

@@ -1,13 +1,14 @@
 -- The core cells that a cell lists, in the order in which a search by blocks finds them, and what the words hold for that search. Definitions only.
 use Rattle.std.specs.Prelude.{◌≡◌, Bool, not, ◌&&◌, List, [], ◌++◌, ℕ, zero, suc, ◌+◌, ◌-◌, ◌*◌, ◌^◌, ◌<◌, ◌≤◌, ℤ, eqb, leb, length, get_or}
 use Rattle.lists.specs.Lists.{keep}
+use Rattle.lists.specs.Words.{part}
 use Rattle.lists.specs.Sorting.{begin_in, Sorted}
 use Rattle.hyperparams.specs.declared.ValidParams.{ValidParams}
 use Rattle.counting_tree.specs.Geometry.{Geometry}
-use Rattle.counting_tree.specs.Ready.{geometry_at}
+use Rattle.counting_tree.specs.Ready.{geometry_at, Ready}
 use Rattle.blocks.specs.Blocks.{same_nats, row_of, row_around, own_row, key_for, found_in, found}
 use Rattle.cells_grid.specs.Cells.{cells, core_cell}
-use Rattle.cells_grid.specs.Arrangement.{cell_at}
+use Rattle.cells_grid.specs.Arrangement.{cell_at, Arranged}
 
 -- how far the counts of the first frames of cells that list each other can differ: "at most 4 × t × t"
 abbrev pub reach_of : ValidParams → ℕ
@@ -76,3 +77,22 @@ module _ (v : ValidParams) (n : ℕ) (ps : List ℤ) where
   -- the words hold the core cells by bucket: from 10n where those of each bucket end, from 14n the cells
   abbrev pub CellsSorted : List ℕ → Type 0
   CellsSorted w = Sorted cell_key (length (cells geo)) (4 * length (cells geo)) (10 * n) (14 * n) w
+
+  -- the words hold the cells, the core cells by bucket and, with marks below the list, the runs of marked ones
+  pub record CellsLaid (marks mark : ℕ) (w : List ℕ) : Type 0 where
+    pub ready : Ready ps v n
+    pub arranged : Arranged geo (length (cells geo)) w
+    pub sorted : CellsSorted w
+    pub fit : 16 * n ≤ length w
+    pub apart : marks + n ≤ 10 * n
+    pub runs : MarkedRuns w n (length (cells geo)) marks mark
+
+  -- of the sorted cells from a up to b those with numbers from `after` on that lie in row r around frame i, and near it
+  abbrev pub near_by : (i after r : ℕ) → List ℕ → (a b : ℕ) → List ℕ
+  near_by i after r w a b = keep (near_in i after r) (part w (14 * n + a) (b - a))
+
+  -- the unmarked ones of these have room after the first m words of the list
+  pub record Listable (marks mark i after r m a b : ℕ) (w : List ℕ) : Type 0 where
+    pub laid : CellsLaid marks mark w
+    pub high : b ≤ length (cells geo)
+    pub room : m + length (unmarked w marks mark (near_by i after r w a b)) ≤ n

@@ -2,8 +2,8 @@
 use Rattle.std.specs.Prelude.{Bool, not, ◌&&◌, cond, List, ◌++◌, map, ℕ, ◌+◌, ◌-◌, ◌*◌, ◌^◌, ◌<◌, ◌≤◌, ℤ, eqb, length, get_or, drop}
 use Rattle.std.proofs.Math.Dec.{leb}
 use Rattle.std.proofs.Math.ListN.{replicate}
-use Rattle.lists.specs.Lists.{numbers, how_many, total, concat, Below}
-use Rattle.lists.specs.Words.{over, column, rest}
+use Rattle.lists.specs.Lists.{numbers, keep, how_many, total, concat, Below}
+use Rattle.lists.specs.Words.{over, part, column, rest}
 use Rattle.lists.specs.Sorting.{begin_in, Sorted}
 use Rattle.hyperparams.specs.declared.ValidParams.{ValidParams}
 use Rattle.counting_tree.specs.Ready.{geometry_at, Ready}
@@ -52,6 +52,16 @@ module _ (v : ValidParams) (n : ℕ) (ps : List ℤ) where
   -- whether frame j comes from `low` on, and is a neighbour of frame i in row m of those around it
   abbrev pub later_in : (i low m j : ℕ) → Bool
   later_in i low m j = same_nats (row_of v.t v n ps j) (row_around v.t v n ps i m) && (leb low j && neighbour (geometry_at v n ps) i j)
+
+  -- those found among the sorted frames from a up to b
+  abbrev pub later_by : (i low m : ℕ) → List ℕ → (a b : ℕ) → List ℕ
+  later_by i low m w a b = keep (later_in i low m) (part w (14 * n + a) (b - a))
+
+  -- what the count of these asks: their counts, which stand from 10n on, have room
+  pub record Countable (i low m a b : ℕ) (w : List ℕ) : Type 0 where
+    pub laid : Laid w
+    pub fits : (a ≤ b) × (b ≤ n) × Below n (part w (14 * n + a) (b - a))
+    pub room : Room w (10 * n) n (later_by i low m w a b)
 
   -- those found in row m
   unfoldable pub later_row : (i low m : ℕ) → List ℕ

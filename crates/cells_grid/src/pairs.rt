@@ -1,19 +1,13 @@
 // How many neighbours every frame has, where the frames are sorted as `crowding` has them: each pair is found once, and counted for both.
 // Of two neighbours one finds the other in a row after its own, or in its own row as a later frame. So each frame looks at the rows from its own on.
-ghost use Rattle.std.specs.Prelude.{◌≡◌, ℕ, ◌+◌, ◌-◌, ◌*◌, ◌/◌, ◌<◌, ◌≤◌, leb, pos, length, get_or, set};
-ghost use Rattle.lists.specs.Lists.{keep, Below};
-ghost use Rattle.lists.specs.Words.{over, part, column, Clear};
+ghost use Rattle.std.specs.Prelude.{◌≡◌, ℕ, ◌+◌, ◌-◌, ◌*◌, ◌^◌, ◌<◌, ◌≤◌, leb, length, get_or, set};
+ghost use Rattle.lists.specs.Words.{over, column, Clear};
 ghost use Rattle.lists.specs.Sorting.{begin_in};
-ghost use Rattle.counting_tree.specs.Domain.{Counts};
-ghost use Rattle.counting_tree.specs.Ready.{geometry_at};
-ghost use Rattle.blocks.specs.Blocks as Blocks;
-ghost use Rattle.blocks.specs.Blocks.{raise, frame_at, row_hash, row_around};
-ghost use Rattle.blocks.specs.AroundLaws.{Rows};
-ghost use Rattle.cells_grid.specs.Cells as Cells;
-ghost use Rattle.cells_grid.specs.Pairs.{raised, Room, squares_in, Laid, later_in, later_row, risen, others};
+ghost use Rattle.cells_grid.specs.Pairs.{raised, Room, squares_in, Laid, later_in, later_by, Countable, later_row, risen, others};
 
 use crate::crowding;
-use hyperparams::ValidParams;
+use crate::crowding::Search;
+use counting_tree::Frames;
 use lists::Word;
 
 // From 10n on stands how many neighbours each frame has besides itself.
@@ -41,10 +35,8 @@ pub fn sparse(work: &[Word], n: usize) -> bool
     }
     let ends = crowding::ENDS * n;
     let mut sum = square(work[ends]);
-    let mut b = 1;
-    while b < crowding::BUCKETS * n {
+    for b in 1..crowding::BUCKETS * n {
         sum += square(work[ends + b] - work[ends + b - 1]);
-        b += 1;
     }
     sum as usize <= SHARED * n
 }
@@ -57,137 +49,75 @@ fn add_to(work: &mut [Word], at: usize, m: usize)
     work[at] = (lists::word(work, at) + m) as Word;
 }
 
-// Whether frame j, one from `low` on, is a neighbour of frame i in row m of those that begin at `first`; `own` is the first frame of frame i's cell.
-fn is_later(
-    points: &[i16],
-    v: ValidParams,
-    n: usize,
-    work: &[Word],
-    first: [u64; 4],
-    m: usize,
-    own: usize,
-    i: usize,
-    low: usize,
-    j: usize,
-) -> bool
-    requires { Laid v n points.now work.now × Rows v.t v n points.now i first × (own ≡ Cells.first (geometry_at v n points.now) i) × (j < n) }
-    ensures { result ≡ later_in v n points.now i low m j }
+// Whether frame j comes from `low` on, and is a neighbour in row m.
+fn is_later(search: &Search, work: &[Word], low: usize, m: usize, j: usize) -> bool
+    requires { let f = search.now.around.frames.now in Laid f.v f.n f.points.now work.now × (j < f.n) }
+    ensures { let a = search.now.around in let f = a.frames.now in result ≡ later_in f.v f.n f.points.now a.i low m j }
 {
-    if j < low {
-        return false;
-    }
-    crowding::is_neighbour(points, v, n, work, first, m, own, i, j)
+    low <= j && search.is_neighbour(work, m, j)
 }
 
-// Adds 1 to the count of each neighbour of frame i in row m, from frame `low` on, among the sorted frames from `from` up to `to`. Returns how many there are.
+// Adds 1 to the count of each neighbour in row m, from frame `low` on, among the sorted frames from `from` up to `to`. Returns how many there are.
+#[inline(always)]
 fn count_stretch(
-    points: &[i16],
-    v: ValidParams,
-    n: usize,
+    search: &Search,
     work: &mut [Word],
-    first: [u64; 4],
-    m: usize,
-    own: usize,
-    i: usize,
     low: usize,
+    m: usize,
     from: usize,
     to: usize,
 ) -> usize
-    requires laid { Laid v n points.now work.old × Rows v.t v n points.now i first × (own ≡ Cells.first (geometry_at v n points.now) i) }
-    requires from_le_to { (from ≤ to) × (to ≤ n) × Below n (part work.old (14 * n + from) (to - from)) }
-    requires room { Room work.old (10 * n) n (keep (later_in v n points.now i low m) (part work.old (14 * n + from) (to - from))) }
-    ensures value { result ≡ length (keep (later_in v n points.now i low m) (part work.old (14 * n + from) (to - from))) }
-    ensures work_after { work.new ≡ raised work.old (10 * n) n (keep (later_in v n points.now i low m) (part work.old (14 * n + from) (to - from))) }
+    requires { let a = search.now.around in let f = a.frames.now in Countable f.v f.n f.points.now a.i low m from to work.old }
+    ensures value { let a = search.now.around in let f = a.frames.now in result ≡ length (later_by f.v f.n f.points.now a.i low m work.old from to) }
+    ensures work_after { let a = search.now.around in let f = a.frames.now in work.new ≡ raised work.old (10 * f.n) f.n (later_by f.v f.n f.points.now a.i low m work.old from to) }
 {
+    let n = search.around.frames.n;
     let mut sum = 0;
-    let mut p = from;
-    while p < to {
-        let next = p + 1;
+    for p in from..to {
         let j = lists::word(work, blocks::PLACES * n + p);
-        if is_later(points, v, n, work, first, m, own, i, low, j) {
+        if is_later(search, work, low, m, j) {
             add_to(work, COUNTS * n + j, 1);
             sum += 1;
-            p = next;
-        } else {
-            p = next;
         }
     }
     sum
 }
 
-// Adds 1 to the count of each neighbour of frame i, from frame `low` on, in row m, which has the hash h. Returns how many there are.
-fn count_row(
-    points: &[i16],
-    v: ValidParams,
-    n: usize,
-    work: &mut [Word],
-    first: [u64; 4],
-    m: usize,
-    h: u64,
-    along: usize,
-    own: usize,
-    i: usize,
-    low: usize,
-) -> usize
-    requires laid { Laid v n points.now work.old × Rows v.t v n points.now i first × (own ≡ Cells.first (geometry_at v n points.now) i) }
-    requires h_value { (h ≡ row_hash (row_around v.t v n points.now i m)) × (along ≡ (raise (get_or (frame_at v.t v n points.now i) 0 (pos 0)) - v.t) / Blocks.width v.t) }
-    requires room { Room work.old (10 * n) n (later_row v n points.now i low m) }
-    ensures value { result ≡ length (later_row v n points.now i low m) }
-    ensures work_after { work.new ≡ raised work.old (10 * n) n (later_row v n points.now i low m) }
+// Adds 1 to the count of each neighbour in row m, from frame `low` on. Returns how many there are.
+fn count_row(search: &Search, work: &mut [Word], low: usize, m: usize) -> usize
+    requires laid { let f = search.now.around.frames.now in Laid f.v f.n f.points.now work.old × (m < 2 ^ (f.v.channels - 1)) }
+    requires room { let a = search.now.around in let f = a.frames.now in Room work.old (10 * f.n) f.n (later_row f.v f.n f.points.now a.i low m) }
+    ensures value { let a = search.now.around in let f = a.frames.now in result ≡ length (later_row f.v f.n f.points.now a.i low m) }
+    ensures work_after { let a = search.now.around in let f = a.frames.now in work.new ≡ raised work.old (10 * f.n) f.n (later_row f.v f.n f.points.now a.i low m) }
 {
-    let size = crowding::BUCKETS * n - 1;
-    let s = blocks::stretch_at(
-        work,
-        crowding::ENDS * n,
-        blocks::bucket(h, along, size),
-        size,
-    );
-    let mut from = s.from;
-    let mut to = s.to;
-    let mut rest = s.rest;
-    let mut sum = 0;
-    // One place of call for both stretches: the compiler then puts it in line. (What ends at 0 is empty, and so is its rest.)
-    while to > 0 {
-        sum += count_stretch(points, v, n, work, first, m, own, i, low, from, to);
-        from = 0;
-        to = rest;
-        rest = 0;
-    }
-    sum
+    let s = search.stretch(work, m);
+    let sum = count_stretch(search, work, low, m, s.from, s.to);
+    sum + count_stretch(search, work, low, m, 0, s.rest)
 }
 
-// Counts the pairs that frame i finds, for both frames of each.
-fn count_frame(points: &[i16], v: ValidParams, n: usize, work: &mut [Word], i: usize)
-    requires { Laid v n points.now work.old × Counts points.now × (i < n) × Room work.old (10 * n) n (risen v n points.now i) }
-    ensures { work.new ≡ raised work.old (10 * n) n (risen v n points.now i) }
+// Counts the pairs that a frame finds, for both frames of each.
+fn count_frame(search: &Search, work: &mut [Word])
+    requires { let a = search.now.around in let f = a.frames.now in Laid f.v f.n f.points.now work.old × Room work.old (10 * f.n) f.n (risen f.v f.n f.points.now a.i) }
+    ensures { let a = search.now.around in let f = a.frames.now in work.new ≡ raised work.old (10 * f.n) f.n (risen f.v f.n f.points.now a.i) }
 {
-    let c = lists::word(work, i);
-    let own = lists::word(work, n + c);
-    let w = crowding::width(v);
-    let first = blocks::edges_at(points, v, n, w, v.t, i);
-    let along = (first[0] / w) as usize;
-    let hashes = blocks::row_hashes(first, w);
-    let rows = blocks::row_count(v.channels);
-    let mut m = blocks::own_row(points, v, n, w, first, i);
-    let mut low = i + 1;
+    let around = &search.around;
+    let frames = around.frames;
+    let mut low = around.i + 1;
     let mut sum = 0;
-    while m < rows {
-        let next = m + 1;
-        sum += count_row(points, v, n, work, first, m, hashes[m], along, own, i, low);
+    for m in around.own_row()..blocks::row_count(frames.v.channels) {
+        sum += count_row(search, work, low, m);
         low = 0;
-        m = next;
     }
-    add_to(work, COUNTS * n + i, sum);
+    add_to(work, COUNTS * frames.n + around.i, sum);
 }
 
 // Counts the neighbours of every frame besides itself.
-pub fn count_pairs(points: &[i16], v: ValidParams, n: usize, work: &mut [Word])
-    requires { Laid v n points.now work.old × Counts points.now × Clear work.old (10 * n) n }
-    ensures { work.new ≡ over work.old (10 * n) (column (others v n points.now) n) }
+pub fn count_pairs(frames: &Frames, work: &mut [Word])
+    requires { let f = frames.now in Laid f.v f.n f.points.now work.old × Clear work.old (10 * f.n) f.n }
+    ensures { let f = frames.now in work.new ≡ over work.old (10 * f.n) (column (others f.v f.n f.points.now) f.n) }
 {
-    let mut i = 0;
-    while i < n {
-        count_frame(points, v, n, work, i);
-        i += 1;
+    for i in 0..frames.n {
+        let search = Search::new(&*frames, work, i);
+        count_frame(&search, work);
     }
 }

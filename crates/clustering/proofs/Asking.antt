@@ -1,11 +1,10 @@
 -- Whether trees are asked: what the words are while cells are united with no tree, and while their lists are looked through.
 use mathlib.Core.Path.{◌≡◌, refl, sym, ap, ap₂, ◌∙◌, subst}
 use mathlib.Core.List.{List, map}
-use Prim.Native.Nat.{ℕ, ◌+◌, ◌-◌, ◌*◌, ◌<◌, ◌≤◌}
+use Prim.Native.Nat.{ℕ, ◌+◌, ◌*◌, ◌<◌, ◌≤◌}
 use native.Mathlib.Omega.{arith}
 use lib.IntN.{ℤ}
 use lib.ListN.{length, drop, get_or, replicate, length-take}
-use borrow.Rule.Slice.PartMut.{put_mid}
 use Rattle.lists.specs.Lists.{In, Below}
 use Rattle.lists.specs.Words.{over, part, column, Clear}
 use Rattle.lists.specs.ListLaws.{at_in}
@@ -104,9 +103,8 @@ module _ {ps : List ℤ} {v : ValidParams} {n : ℕ} (r : Ready ps v n) {k : ℕ
 
 -- ---- cells united with no tree: each by itself, and then the close pairs
 module _ {ps : List ℤ} {v : ValidParams} {n : ℕ} (r : Ready ps v n) {k : ℕ} {w₀ : List ℕ} (gr₀ : Grown (geometry_at v n ps) k w₀) (H : CellsSorted v n ps w₀) (l : 16 * n ≤ length w₀) (z : Clear w₀ (15 * n) n)
-    {q : List ℕ} (eq : q ≡ column (λ c. c) (length (part w₀ (6 * n) (6 * n + k - 6 * n))))
-    {u : List ℕ} (eu : u ≡ over (put_mid (6 * n) (6 * n + k - 6 * n) w₀ q) (6 * n)
-    (meet_all by_own_leaders (link_at (geometry_at v n ps)) (close_pairs v n ps (sorted_cells (put_mid (6 * n) (6 * n + k - 6 * n) w₀ q) n k)) (part (put_mid (6 * n) (6 * n + k - 6 * n) w₀ q) (6 * n) k))) where
+    {x : List ℕ} (eq : x ≡ over w₀ (6 * n) (column (λ c. c) k))
+    {u : List ℕ} (eu : u ≡ over x (6 * n) (meet_all by_own_leaders (link_at (geometry_at v n ps)) (close_pairs v n ps (sorted_cells x n k)) (part x (6 * n) k))) where
   few₀ : k ≤ n
   few₀ = few_cells r gr₀
 

@@ -1,15 +1,19 @@
 -- The lowest cell on the list of a frame's own cell in whose tree the frame has a non-zero count, from the words of that list.
-use mathlib.Core.Path.{◌≡◌, sym, ap, ap₂, ◌∙◌, subst}
+use mathlib.Core.Logic.{inl}
+use mathlib.Core.Path.{◌≡◌, refl, sym, ap, ap₂, ◌∙◌, subst}
 use mathlib.Core.Bool.{Bool, true, false}
-use mathlib.Core.List.{List}
+use mathlib.Core.List.{List, [], ◌∷◌}
+use Rattle.std.proofs.lemmas.Bool.{lt-leb}
+use Rattle.std.specs.Prelude.{Option, None, Some, slice_get, unwrap_or, IfSome, MatchOption}
 use Prim.Native.Nat.{ℕ, ◌+◌, ◌*◌, ◌<◌, ◌≤◌}
 use native.Mathlib.Omega.{arith}
-use lib.Dec.{T}
+use lib.Dec.{T, leb}
 use lib.IntN.{ℤ}
 use lib.ListN.{length, get_or, replicate}
 use Rattle.lists.specs.Lists.{numbers, keep, head_or, In, nonzero}
 use Rattle.lists.specs.Words.{over, Clear}
 use Rattle.lists.specs.OrderLaws.{below_at}
+use Rattle.lists.specs.ListLaws.{in_keep, in_numbers}
 use Rattle.lists.proofs.WordLaws.{over_length}
 use Rattle.lists.proofs.PartLaws.{get_laid}
 use Rattle.lists.proofs.LoopLaws.{Lowest, lowest_same, lowest_less, lowest_end}
@@ -29,28 +33,40 @@ use Rattle.clustering.proofs.Held.{counted_core, frames, cell_count_lem, few_cel
 abbrev pub counts : Geometry → ℕ → ℕ → Bool
 counts g i c = nonzero (count g i (cell_at g c))
 
+-- o is the lowest of the first j cells of a list that pass f, each of which is below k
+abbrev pub LowestSoFar : (f : ℕ → Bool) → (k : ℕ) → List ℕ → Option ℕ → (j : ℕ) → Type 0
+LowestSoFar f k xs o j = Lowest f k xs (unwrap_or o k) j × IfSome o (λ c. c < k)
+
+-- `lower` is whether c is below what is kept, of which P tells the same by its value
+pub some_lower : (o : Option ℕ) {k c : ℕ} {r : Bool} {P : ℕ → Type 0} → MatchOption o (r ≡ false) P → ((x : ℕ) → P x → r ≡ leb x c) → c < k → r ≡ leb (unwrap_or o k) c
+some_lower None e p l = e ∙ sym (lt-leb _ _ l)
+some_lower (Some x) m p l = p x m
+
+first_of : {k : ℕ} (o : Option ℕ) (xs : List ℕ) → ((x : ℕ) → In x xs → x < k) → IfSome o (λ c. c < k) → unwrap_or o k ≡ head_or k xs → o ≡ slice_get xs 0
+first_of None [] b l e = refl
+first_of None (x ∷ xs) b l e = absurd (omega (arith, e, b x (inl refl)))
+first_of (Some c) [] b l e = absurd (omega (arith, e, l))
+first_of (Some c) (x ∷ xs) b l e = ap Some e
+
 module _ {ps : List ℤ} {v : ValidParams} {n k : ℕ} {w : List ℕ} {i : ℕ}
-    (s : (Ready ps v n × Grown (geometry_at v n ps) k w × (i < n)) × (CellsSorted v n ps w × Clear w (15 * n) n × (16 * n ≤ length w))) {own : ℕ} (eo : own ≡ get_or w i 0) where
+    (r : Ready ps v n) (s : Grown (geometry_at v n ps) k w × (i < n)) (l : CellsSorted v n ps w × Clear w (15 * n) n × (16 * n ≤ length w)) {own : ℕ} (eo : own ≡ get_or w i 0) where
   abbrev g : Geometry
   g = geometry_at v n ps
 
-  abbrev r : Ready ps v n
-  r = s.0.0
-
   abbrev gr : Grown g k w
-  gr = s.0.1
+  gr = s.0
 
   abbrev L : List ℕ
   L = list_of v n ps own
 
   own_is : own ≡ cell_number g i
-  own_is = eo ∙ own_held r gr i s.0.2
+  own_is = eo ∙ own_held r gr i s.1
 
   own_cell : own < length (cells g)
-  own_cell = omega (arith, own_is, own_below r gr i s.0.2, cell_count_lem r gr)
+  own_cell = omega (arith, own_is, own_below r gr i s.1, cell_count_lem r gr)
 
   pub can_list : Ready ps v n × Arranged g k w × CellsSorted v n ps w × (own < k) × (16 * n ≤ length w)
-  can_list = (r, gr.cored.cells, s.1.0, omega (arith, own_cell, cell_count_lem r gr), s.1.2)
+  can_list = (r, gr.cored.cells, l.0, omega (arith, own_cell, cell_count_lem r gr), l.2)
 
   abbrev near : ℕ → Bool
   near d = listed g (cell_at g own) (cell_at g d)
@@ -66,44 +82,47 @@ module _ {ps : List ℤ} {v : ValidParams} {n k : ℕ} {w : List ℕ} {i : ℕ}
   short : length L ≤ n
   short = omega (arith, list_length r own own_cell, few_cells r gr, cell_count_lem r gr)
 
-  module _ {m : ℕ} {u : List ℕ} (e : (m ≡ length L) × (u ≡ over w (15 * n) L)) where
+  module _ {m : ℕ} (em : m ≡ length L) {u : List ℕ} (eu : u ≡ over w (15 * n) L) where
     pub few_listed : m ≤ n
-    few_listed = omega (arith, e.0, short)
+    few_listed = omega (arith, em, short)
 
     pub room_listed : 16 * n ≤ length u
-    room_listed = omega (arith, ap length e.1, over_length w (15 * n) L (omega (arith, short, s.1.2)), s.1.2)
+    room_listed = omega (arith, ap length eu, over_length w (15 * n) L (omega (arith, short, l.2)), l.2)
+
+    pub grown_listed : Grown g k u
+    grown_listed = subst (Grown g k) (sym eu) (grown_over gr (frames r gr) (15 * n) L (omega arith) (omega (arith, short)) (omega (arith, l.2)))
 
     module _ {j : ℕ} (h : j < m) {c : ℕ} (ec : c ≡ get_or u (15 * n + j) 0) where
       inside : j < length L
-      inside = omega (arith, e.0)
+      inside = omega (arith, em)
 
       is_listed : c ≡ get_or L j 0
-      is_listed = ec ∙ ap (λ (z : List ℕ). get_or z (15 * n + j) 0) e.1 ∙ get_laid w (15 * n) j L inside (omega (arith, s.1.2))
+      is_listed = ec ∙ ap (λ (z : List ℕ). get_or z (15 * n + j) 0) eu ∙ get_laid w (15 * n) j L inside (omega (arith, l.2))
 
       pub can_ask : Ready ps v n × Grown g k u × (i < n) × (c < k)
       can_ask = (
         r,
-        subst (Grown g k) (sym e.1) (grown_over gr (frames r gr) (15 * n) L (omega arith) (omega (arith, short)) (omega (arith, s.1.2))),
-        s.0.2,
+        grown_listed,
+        s.1,
         omega (arith, is_listed, below_at k L j (λ d i. (sound d i).0) inside),
       )
 
-      module _ {b : ℕ} (low : Lowest (counts g i) k L b j) where
-        pub not_lower : b ≤ c → Lowest (counts g i) k L b (j + 1)
-        not_lower l = lowest_same low inside is_listed (λ t. l)
+      module _ (o : Option ℕ) (low : LowestSoFar (counts g i) k L o j) where
+        pub not_lower : unwrap_or o k ≤ c → LowestSoFar (counts g i) k L o (j + 1)
+        not_lower l = (lowest_same low.0 inside is_listed (λ t. l), low.1)
 
-        pub no_count : {a : Bool} → a ≡ counts g i c → a ≡ false → Lowest (counts g i) k L b (j + 1)
-        no_count q f = lowest_same low inside is_listed (λ t. absurd (subst T (sym q ∙ f) t))
+        pub no_count : {a : Bool} → a ≡ counts g i c → a ≡ false → LowestSoFar (counts g i) k L o (j + 1)
+        no_count q f = (lowest_same low.0 inside is_listed (λ t. absurd (subst T (sym q ∙ f) t)), low.1)
 
-        pub lower : c < b → {a : Bool} → a ≡ counts g i c → a ≡ true → Lowest (counts g i) k L c (j + 1)
-        lower l q f = lowest_less low inside is_listed l (sym q ∙ f)
+        pub lower : c < unwrap_or o k → {a : Bool} → a ≡ counts g i c → a ≡ true → LowestSoFar (counts g i) k L (Some c) (j + 1)
+        lower l q f = (lowest_less low.0 inside is_listed l (sym q ∙ f), can_ask.3)
 
-    module _ {b j : ℕ} (low : Lowest (counts g i) k L b j) (h : m ≤ j) where
-      pub lowest_border : (b ≡ head_or k (keep (borders_at g (cell_number g i) i) (numbers k))) × (b ≤ k)
+    module _ {o : Option ℕ} {j : ℕ} (low : LowestSoFar (counts g i) k L o j) (h : m ≤ j) where
+      pub lowest_border : o ≡ slice_get (keep (borders_at g (cell_number g i) i) (numbers k)) 0
       unfolding borders_at
       lowest_border =
-          subst (λ (x : ℕ). (b ≡ head_or k (keep (borders_at g x i) (numbers k))) × (b ≤ k)) own_is
-          (lowest_end low (omega (arith, e.0)) near sound complete)
+          subst (λ (x : ℕ). o ≡ slice_get (keep (borders_at g x i) (numbers k)) 0) own_is
+          (first_of o (keep (borders_at g own i) (numbers k)) (λ x p. in_numbers k x (in_keep (borders_at g own i) x (numbers k) p).0) low.1 (lowest_end low.0 (omega (arith, em)) near sound complete).0)
 
     pub listed_cleared : {x : List ℕ} → x ≡ over u (15 * n) (replicate m 0) → x ≡ w
-    listed_cleared q = q ∙ ap₂ (λ (y : List ℕ) (x : ℕ). over y (15 * n) (replicate x 0)) e.1 e.0 ∙ list_cleared r own own_cell w s.1.2 s.1.1
+    listed_cleared q = q ∙ ap₂ (λ (y : List ℕ) (x : ℕ). over y (15 * n) (replicate x 0)) eu em ∙ list_cleared r own own_cell w l.2 l.1

@@ -7,8 +7,7 @@ use native.Mathlib.Omega.{arith}
 use lib.Dec.{T, ltb, eqb}
 use lib.IntN.{ℤ}
 use lib.ListN.{length, get_or}
-use borrow.Author.Tests.{lt-ltb, le-ltb}
-use borrow.Rule.Slice.PartMut.{put_mid}
+use borrow.Author.Tests.{eq-eqb, lt-ltb, le-ltb}
 use Rattle.lists.specs.Words.{over, part, rest}
 use Rattle.lists.specs.ListLaws.{true_T, T_true, not_turn}
 use Rattle.lists.proofs.WordLaws.{over_self}
@@ -24,19 +23,19 @@ use Rattle.cells_grid.specs.Arrangement.{cell_at}
 use Rattle.cells_grid.specs.Listing.{sorted_count, CellsSorted}
 use Rattle.cells_grid.proofs.ListingLaws.{sorted_few, sorted_cell}
 use Rattle.core_cells.specs.Forest.{Grown}
-use Rattle.partitions.specs.Leaders.{Falling, root, shorten_both, united}
+use Rattle.partitions.specs.Leaders.{Falling, root}
 use Rattle.partitions.specs.TrialLaws.{Within}
 use Rattle.clustering.specs.Clusters.{touches}
 use Rattle.clustering.specs.Uniting.{pair_at, one_pair, touch_at}
 use Rattle.clustering.proofs.UnitingLaws.{if_within}
-use Rattle.clustering.specs.UniteAll.{link_at, meet_all, by_own_leaders}
+use Rattle.clustering.specs.UniteAll.{link_at, meet, meet_all, by_own_leaders}
 use Rattle.clustering.proofs.UniteAllLaws.{meet_append, touch_links}
 use Rattle.clustering.specs.Close.{back, later_at, earlier_at, sorted_cells, close_at, close_pair, close_turns, close_pairs}
 use Rattle.clustering.proofs.CloseLaws.{close_pair_lem, close_touches}
 use Rattle.clustering.proofs.Held.{few_cells, cell_count_lem, is_cell_lem, core_held, first_held, first_low}
 use Rattle.clustering.proofs.ByLists.{left, Leading, leading_start, leaders_now, leading_on, pairs_stand}
-use Rattle.clustering.proofs.Trying.{CanTry, p, P, put, Q}
-use Rattle.clustering.proofs.Meeting.{one_leader, one_set, link}
+use Rattle.clustering.proofs.Trying.{CanTry}
+use Rattle.clustering.proofs.Meeting.{one_leader, pair_met, met_one, met_joined}
 
 -- ---- two cells, with the first frames i and j
 module _ {ps : List ℤ} {v : ValidParams} {n : ℕ} (r : Ready ps v n) {k : ℕ} {w : List ℕ} (gr : Grown (geometry_at v n ps) k w) {c d : ℕ} (hc : c < k) (hd : d < k) where
@@ -95,38 +94,48 @@ module _ {ps : List ℤ} {v : ValidParams} {n : ℕ} (r : Ready ps v n) {k : ℕ
     pair_of t = close_pair_lem r (is_cell_lem r gr c hc) (is_cell_lem r gr d hd) t
 
     -- a close pair is met as a pair is
-    as_pair : (t : T (close_at v n ps c d)) {z : List ℕ} → z ≡ over w (6 * n) (left g (one_pair g c d) (part w (6 * n) k)) → Laid z
+    as_pair : T (close_at v n ps c d) → {z : List ℕ} → z ≡ over w (6 * n) (meet by_own_leaders (link_at g) c d (part w (6 * n) k)) → Laid z
     unfolding close_pair one_pair
-    as_pair t e = e ∙ ap (λ (ps : List (ℕ × ℕ)). over w (6 * n) (left g ps (part w (6 * n) k))) (rw (T_true (close_at v n ps c d) t, T_true (pair_at g c d) (pair_of t)) refl)
+    as_pair t e =
+        e
+        ∙ ap (over w (6 * n)) (sym (pair_met g c d (pair_of t) (part w (6 * n) k)))
+        ∙ ap (λ (ps : List (ℕ × ℕ)). over w (6 * n) (left g ps (part w (6 * n) k))) (rw (T_true (close_at v n ps c d) t, T_true (pair_at g c d) (pair_of t)) refl)
 
     no_pair : close_at v n ps c d ≡ false → Laid w
     unfolding close_pair meet_all
     no_pair e = rw e (sym (over_self w (6 * n) k (part w (6 * n) k) refl (omega (arith, can.room, can.few))))
 
-    module _ {x y : ℕ} (ex : x ≡ get_or w (6 * n + c) 0) (ey : y ≡ get_or w (6 * n + d) 0) where
-      pub close_leader : x ≡ y → Laid w
-      close_leader e = go (close_at v n ps c d) refl
-        where
-          go : (b : Bool) → close_at v n ps c d ≡ b → Laid w
-          go true f = as_pair (true_T f) (one_leader g can (pair_of (true_T f)) ex ey e)
-          go false f = no_pair f
+    -- cells with one leader are passed
+    pub close_leader : get_or w (6 * n + c) 0 ≡ get_or w (6 * n + d) 0 → Laid w
+    unfolding meet
+    close_leader h = go (close_at v n ps c d) refl
+      where
+        e : get_or (part w (6 * n) k) c 0 ≡ get_or (part w (6 * n) k) d 0
+        e = part_at w (6 * n) k c hc ∙ h ∙ sym (part_at w (6 * n) k d hd)
 
-      module _ (other : x ≡ y → ⊥) {b : Bool} (eb : b ≡ close_at v n ps c d) where
-        pub not_close : not b ≡ true → Laid w
-        not_close f = no_pair (sym eb ∙ not_turn b true f)
+        passed : part w (6 * n) k ≡ meet by_own_leaders (link_at g) c d (part w (6 * n) k)
+        passed = sym (rw (one_leader c d can.falling e, eq-eqb _ _ e) refl)
 
-        module _ (f : not b ≡ false) {q : List ℕ} (eq : q ≡ shorten_both (P can) c d) {s : Bool} (es : s ≡ eqb (root (P can) c) (root (P can) d)) where
-          is_close : T (close_at v n ps c d)
-          is_close = true_T (sym eb ∙ not_turn b false f)
+        go : (b : Bool) → close_at v n ps c d ≡ b → Laid w
+        go true f = as_pair (true_T f) (sym (over_self w (6 * n) k _ passed (omega (arith, can.room, can.few))))
+        go false f = no_pair f
 
-          pub close_set : s ≡ true → Laid (put can q)
-          close_set h = as_pair is_close (one_set g can (pair_of is_close) ex ey other eq es h)
+    module _ {b : Bool} (eb : b ≡ close_at v n ps c d) where
+      pub not_close : not b ≡ true → Laid w
+      not_close f = no_pair (sym eb ∙ not_turn b true f)
 
-          pub close_link : s ≡ false → true ≡ touches g (cell_at g c) (cell_at g d) → {u : List ℕ} → u ≡ united (shorten_both (Q can eq) c d) c d → Laid (put_mid (6 * n) (6 * n + k - 6 * n) (put can q) u)
-          unfolding touch_at
-          close_link h t eu =
-              let linked = sym (T_true (link_at g c d) (touch_links g c d (true_T (sym t)))) in
-              as_pair is_close (link g can (pair_of is_close) ex ey other eq es h linked refl eu)
+      module _ (f : not b ≡ false) {x : Bool} (ex : x ≡ not (eqb (root (part w (6 * n) k) c) (root (part w (6 * n) k) d))) {q : List ℕ} (eq : q ≡ over w (6 * n) (by_own_leaders.asked (part w (6 * n) k) c d)) where
+        is_close : T (close_at v n ps c d)
+        is_close = true_T (sym eb ∙ not_turn b false f)
+
+        pub close_set : x ≡ false → Laid q
+        close_set h = as_pair is_close (met_one can g ex eq h)
+
+        pub close_link : x ≡ true → true ≡ touches g (cell_at g c) (cell_at g d) → {u : List ℕ} → u ≡ over q (6 * n) (by_own_leaders.join (part q (6 * n) k) c d) → Laid u
+        unfolding touch_at
+        close_link h t eu =
+            let linked = sym (T_true (link_at g c d) (touch_links g c d (true_T (sym t)))) in
+            as_pair is_close (met_joined can g ex eq h linked refl eu)
 
 -- ---- the turns from q on: w₀ are the words at first, w those now
 module _ (v : ValidParams) (n : ℕ) (ps : List ℤ) (k : ℕ) (w₀ : List ℕ) where

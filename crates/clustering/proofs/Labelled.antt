@@ -1,14 +1,16 @@
 -- The label and the kind of a frame, by the words of the clusters and by the first cell that the frame borders on.
+use Prim.{grind}
 use mathlib.Core.Path.{◌≡◌, refl, sym, ap, ◌∙◌, subst}
 use mathlib.Core.Logic.{inl}
 use mathlib.Core.Bool.{Bool, true, false, not, ◌&&◌}
 use mathlib.Core.List.{List, [], ◌∷◌, map}
-use Prim.Native.Nat.{ℕ, ◌+◌, ◌*◌, ◌<◌, ◌≤◌}
+use Prim.Native.Nat.{ℕ, ◌+◌, ◌*◌, ◌<◌}
 use native.Mathlib.Omega.{arith}
 use lib.Dec.{T, eqb}
 use lib.IntN.{ℤ}
 use lib.ListN.{length, get_or}
-use Rattle.lists.specs.Lists.{numbers, keep, head_or, In, nonzero}
+use Rattle.std.specs.Prelude.{Option, None, Some, slice_get}
+use Rattle.lists.specs.Lists.{numbers, keep, In, nonzero}
 use Rattle.lists.specs.Words.{part, column}
 use Rattle.lists.specs.ListLaws.{true_T, cond_true, and_right, in_keep, in_numbers, keep_same}
 use Rattle.lists.specs.CountLaws.{keep_keep, keep_map}
@@ -71,27 +73,27 @@ module _ (g : Geometry) where
             let h = m c (inl refl) in
             absurd (omega (arith, number_low g (cell_at g c) (core_cell_in g (cell_at g c) (cell_at_lem g c h.0) h.1)))
 
-    module _ (n : T (not (core g i))) (k : ℕ) (e : k ≡ length (cells g)) {b : ℕ} (eb : b ≡ head_or k bordering) where
+    module _ (n : T (not (core g i))) where
       abbrev cluster : ℕ → ℕ
       cluster c = place c (clusters g)
 
-      pub border_told : (b ≡ k → ⊥) → (cluster_word g b ≡ label_by g cluster i) × (1 ≡ kind_of g i)
-      border_told f = go bordering touched_by_number in_bordering eb
+      pub border_told : {b : ℕ} → Some b ≡ slice_get bordering 0 → (b < length (cells g)) × ((cluster_word g b ≡ label_by g cluster i) × (1 ≡ kind_of g i))
+      border_told {b} f = go bordering touched_by_number in_bordering f
         where
-          go : (cs : List ℕ) → touched g i ≡ map (cell_at g) cs → ((c : ℕ) → In c cs → (c < length (cells g)) × T (core_cell g (cell_at g c))) → b ≡ head_or k cs
-              → (cluster_word g b ≡ label_by g cluster i) × (1 ≡ kind_of g i)
-          go [] t m q = absurd (f q)
+          go : (cs : List ℕ) → touched g i ≡ map (cell_at g) cs → ((c : ℕ) → In c cs → (c < length (cells g)) × T (core_cell g (cell_at g c))) → Some b ≡ slice_get cs 0
+              → (b < length (cells g)) × ((cluster_word g b ≡ label_by g cluster i) × (1 ≡ kind_of g i))
+          go [] t m q = absurd (grind (arith, q))
           go (c ∷ cs) t m q =
+              let e : b ≡ c = grind (arith, q) in
               let z = border_label_lem g cluster i n (cell_at g c) (map (cell_at g) cs) t in
-              (ap (cluster_word g) q ∙ cluster_of_lem c (m c (inl refl)).1 ∙ sym z.0, sym z.1)
+              (rw e (m c (inl refl)).0, (ap (cluster_word g) e ∙ cluster_of_lem c (m c (inl refl)).1 ∙ sym z.0, sym z.1))
 
-      pub noise_told : b ≡ k → (65535 ≡ label_by g cluster i) × (0 ≡ kind_of g i)
-      noise_told f = go bordering touched_by_number in_bordering eb
+      pub noise_told : None ≡ slice_get bordering 0 → (65535 ≡ label_by g cluster i) × (0 ≡ kind_of g i)
+      noise_told f = go bordering touched_by_number f
         where
-          go : (cs : List ℕ) → touched g i ≡ map (cell_at g) cs → ((c : ℕ) → In c cs → (c < length (cells g)) × T (core_cell g (cell_at g c))) → b ≡ head_or k cs
-              → (65535 ≡ label_by g cluster i) × (0 ≡ kind_of g i)
-          go [] t m q = let z = noise_label g cluster i n t in (sym z.0, sym z.1)
-          go (c ∷ cs) t m q = absurd (omega (arith, (m c (inl refl)).0))
+          go : (cs : List ℕ) → touched g i ≡ map (cell_at g) cs → None ≡ slice_get cs 0 → (65535 ≡ label_by g cluster i) × (0 ≡ kind_of g i)
+          go [] t q = let z = noise_label g cluster i n t in (sym z.0, sym z.1)
+          go (c ∷ cs) t q = absurd (grind (arith, q))
 
     pub core_told : T (core g i) → (cluster_word g (cell_number g i) ≡ label_by g (λ c. place c (clusters g)) i) × (2 ≡ kind_of g i)
     core_told t =
@@ -131,14 +133,17 @@ module _ {ps : List ℤ} {v : ValidParams} {n : ℕ} (r : Ready ps v n) {k : ℕ
           let z = noise_label g (λ c. place c (clusters g)) i other (none_touched g (lawful r gr) i frame (omega arith)) in
           (sym z.0, sym z.1)
 
-      module _ {b : ℕ} (eb : b ≡ head_or k (keep (borders_at g (cell_number g i) i) (numbers k))) where
-        first_border : b ≡ head_or k (keep (borders_at g (cell_number g i) i) (numbers (length (cells g))))
-        first_border = eb ∙ ap (λ (m : ℕ). head_or k (keep (borders_at g (cell_number g i) i) (numbers m))) (cell_count_lem r gr)
+      module _ {o : Option ℕ} (eo : o ≡ slice_get (keep (borders_at g (cell_number g i) i) (numbers k)) 0) where
+        first_border : o ≡ slice_get (keep (borders_at g (cell_number g i) i) (numbers (length (cells g)))) 0
+        first_border = eo ∙ ap (λ (m : ℕ). slice_get (keep (borders_at g (cell_number g i) i) (numbers m)) 0) (cell_count_lem r gr)
 
-        pub label_border : b ≤ k → (b ≡ k → ⊥) → {u : List ℕ} → u ≡ w → Told (get_or u (7 * n + b) 0) 1
-        label_border l q eu =
-            let z = border_told g (lawful r gr) i frame other k (cell_count_lem r gr) first_border q in
-            (ap (λ (x : List ℕ). get_or x (7 * n + b) 0) eu ∙ holds_at w (7 * n) k (cluster_word g) b ew (omega (arith, q)) ∙ z.0, z.1)
+        pub border_low : {b : ℕ} → o ≡ Some b → b < k
+        border_low q = omega (arith, (border_told g (lawful r gr) i frame other (sym q ∙ first_border)).0, cell_count_lem r gr)
 
-        pub label_noise : b ≡ k → Told 65535 0
-        label_noise q = noise_told g (lawful r gr) i frame other k (cell_count_lem r gr) first_border q
+        pub label_border : {b : ℕ} → o ≡ Some b → {u : List ℕ} → u ≡ w → Told (get_or u (7 * n + b) 0) 1
+        label_border {b} q eu =
+            let z = border_told g (lawful r gr) i frame other (sym q ∙ first_border) in
+            (ap (λ (x : List ℕ). get_or x (7 * n + b) 0) eu ∙ holds_at w (7 * n) k (cluster_word g) b ew (border_low q) ∙ z.1.0, z.1.1)
+
+        pub label_noise : o ≡ None → Told 65535 0
+        label_noise q = noise_told g (lawful r gr) i frame other (sym q ∙ first_border)

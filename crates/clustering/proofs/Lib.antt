@@ -1,7 +1,6 @@
 pub mod Held
 pub mod Touching
 pub mod Turning
-pub mod Lent
 pub mod Trying
 pub mod Meeting
 pub mod ByLists

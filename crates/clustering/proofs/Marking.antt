@@ -8,7 +8,6 @@ use native.Mathlib.Nat.{add-zero}
 use lib.Dec.{eqb}
 use lib.ListN.{length, drop, get_or, set, length-drop, length-map}
 use lib.Seq.{drop-cons, drop-length}
-use borrow.Rule.Slice.PartMut.{put_mid}
 use Rattle.lists.specs.Lists.{Below}
 use Rattle.lists.specs.Words.{over, part, column}
 use Rattle.lists.specs.ListLaws.{length_numbers}
@@ -18,7 +17,6 @@ use Rattle.hyperparams.specs.Params.{max_frames}
 use Rattle.partitions.specs.Leaders.{Falling, root}
 use Rattle.clustering.specs.Runs.{leading, runs_of, sorted_marks}
 use Rattle.clustering.specs.RunsLaws.{runs_length, leading_more, mark_at, marks_are}
-use Rattle.clustering.proofs.Lent.{lent, lent_length, back}
 
 -- ---- the runs from place p on are written: `run` of the cells there have `mark`, and the next does not
 pub record Writing (w₀ : List ℕ) (n k : ℕ) (w : List ℕ) (p mark run : ℕ) : Type 0 where
@@ -148,22 +146,10 @@ module _ (w : List ℕ) (n k : ℕ) (few : k ≤ n) (l : 16 * n ≤ length w) (b
   room : 7 * n ≤ length w
   room = omega arith
 
-  pub can_flatten : Falling (part w (6 * n) (6 * n + k - 6 * n))
-  can_flatten = subst Falling (sym (lent w n k few room)) fall
-
   lowest_length : length lowest ≡ k
   lowest_length = length_numbers low k
 
-  module _ {f : List ℕ} (ef : f ≡ column (root (part w (6 * n) (6 * n + k - 6 * n))) (length (part w (6 * n) (6 * n + k - 6 * n)))) where
-    abbrev w₁ : List ℕ
-    w₁ = put_mid (6 * n) (6 * n + k - 6 * n) w f
-
-    flat : f ≡ lowest
-    flat = ef ∙ ap₂ (λ (p : List ℕ) (m : ℕ). column (root p) m) (lent w n k few room) (lent_length w n k few room)
-
-    laid₁ : w₁ ≡ over w (6 * n) lowest
-    laid₁ = back w n k few room f (ap length flat ∙ lowest_length) ∙ ap (over w (6 * n)) flat
-
+  module _ {w₁ : List ℕ} (laid₁ : w₁ ≡ over w (6 * n) (column (root (part w (6 * n) k)) k)) where
     pub size₁ : length w₁ ≡ length w
     size₁ = ap length laid₁ ∙ over_length w (6 * n) lowest (omega (arith, lowest_length))
 

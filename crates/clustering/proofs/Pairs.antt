@@ -1,15 +1,16 @@
--- The pairs that are left at the cells c and d, and the run that goes on with them.
+-- The pairs that are left, and the run that goes on with them.
 use mathlib.Core.Path.{◌≡◌, refl, sym, ap, ap₂, ◌∙◌, subst}
 use mathlib.Core.Bool.{Bool, true, false, cond}
-use mathlib.Core.List.{List, [], ◌∷◌, ◌++◌, map, append_assoc}
+use mathlib.Core.List.{List, [], ◌∷◌, ◌++◌, map}
 use Prim.Native.Nat.{ℕ, suc, ◌+◌, ◌*◌, ◌<◌, ◌≤◌}
 use native.Mathlib.Omega.{arith}
 use lib.Dec.{ltb}
 use lib.IntN.{ℤ}
 use lib.ListN.{length}
-use Rattle.lists.specs.Lists.{numbers, concat, nonzero}
+use Rattle.std.specs.Prelude.{Option, None, is_some, slice_get}
+use Rattle.lists.specs.Lists.{numbers, concat}
 use Rattle.lists.specs.Words.{over, part, rest}
-use Rattle.lists.specs.ListLaws.{true_T}
+use Rattle.lists.specs.ListLaws.{true_T, in_numbers}
 use Rattle.lists.proofs.WordLaws.{over_self, over_again, over_length}
 use Rattle.lists.proofs.PartLaws.{part_length, part_same}
 use Rattle.lists.proofs.LoopLaws.{rest_start, rest_step, rest_end}
@@ -22,53 +23,43 @@ use Rattle.core_cells.specs.ForestLaws.{grown_over}
 use Rattle.partitions.specs.Leaders.{Falling, root}
 use Rattle.partitions.specs.LeaderLaws.{Stands, own_stands}
 use Rattle.partitions.specs.Trials.{Holding, Outcome, run, by_leaders, by_lowest}
-use Rattle.partitions.specs.TrialLaws.{Alike, alike}
+use Rattle.partitions.specs.TrialLaws.{Alike, Within, alike}
 use Rattle.clustering.specs.declared.uniting.Progress.{Progress}
-use Rattle.clustering.specs.Uniting.{pair_at, one_pair, pairs_with, pairs_of, touch_at, stopped, progress_of}
-use Rattle.clustering.proofs.UnitingLaws.{with_more, one_within}
-use Rattle.clustering.proofs.Held.{frames, few_cells, cell_count_lem}
+use Rattle.clustering.specs.Uniting.{one_pair, pairs_with, pairs_of, touch_at, progress_of}
+use Rattle.clustering.proofs.UnitingLaws.{with_more, with_within}
+use Rattle.clustering.proofs.Held.{frames, few_cells}
 
--- ---- the pairs from c and d on
+-- ---- the pairs of the cells from c on, and of c with the cells from d on
 module _ (g : Geometry) (k : ℕ) where
-  abbrev rows : List ℕ → List (ℕ × ℕ)
+  unfoldable pub rows : List ℕ → List (ℕ × ℕ)
+  unfolding pairs_with
   rows cs = concat (map (λ c. pairs_with g c (numbers k)) cs)
 
-  -- those of the first of the cells cs from d on, and all of the others
-  abbrev from_row : ℕ → List ℕ → List (ℕ × ℕ)
-  from_row d [] = []
-  from_row d (c ∷ cs) = pairs_with g c (rest k d) ++ rows cs
+  pub all_rows : k ≡ length (cells g) → rows (rest k 0) ≡ pairs_of g
+  unfolding rows pairs_of
+  all_rows e = ap rows (rest_start k) ∙ ap (λ (m : ℕ). concat (map (λ c. pairs_with g c (numbers m)) (numbers m))) e
 
-  unfoldable pub pairs_from : ℕ → ℕ → List (ℕ × ℕ)
-  pairs_from c d = from_row d (rest k c)
+  pub next_row : (c : ℕ) → c < k → rows (rest k c) ≡ pairs_with g c (numbers k) ++ rows (rest k (c + 1))
+  unfolding rows
+  next_row c h = ap rows (rest_step k c h)
 
-  whole_rows : (cs : List ℕ) → from_row 0 cs ≡ rows cs
-  whole_rows [] = refl
-  whole_rows (c ∷ cs) = ap (λ (l : List ℕ). pairs_with g c l ++ rows cs) (rest_start k)
+  pub no_row : (c : ℕ) → k ≤ c → rows (rest k c) ≡ []
+  unfolding rows
+  no_row c h = ap rows (rest_end k c h)
 
-  pub from_start : k ≡ length (cells g) → pairs_from 0 0 ≡ pairs_of g
-  unfolding pairs_from pairs_of
-  from_start e = whole_rows (rest k 0) ∙ ap rows (rest_start k) ∙ ap (λ (m : ℕ). concat (map (λ c. pairs_with g c (numbers m)) (numbers m))) e
+  pub row_within : (c : ℕ) → c < k → Within k (pairs_with g c (numbers k))
+  row_within c h = with_within g c (numbers k) h (λ d i. in_numbers k d i)
 
-  pub from_end : (c d : ℕ) → k ≤ c → pairs_from c d ≡ []
-  unfolding pairs_from
-  from_end c d h = ap (from_row d) (rest_end k c h)
+  module _ (c : ℕ) where
+    pub whole_row : pairs_with g c (rest k 0) ≡ pairs_with g c (numbers k)
+    whole_row = ap (pairs_with g c) (rest_start k)
 
-  module _ (c : ℕ) (h : c < k) where
-    pub from_row_lem : (d : ℕ) → k ≤ d → pairs_from c d ≡ pairs_from (c + 1) 0
-    unfolding pairs_from pairs_with
-    from_row_lem d l =
-        ap (from_row d) (rest_step k c h)
-        ∙ ap (λ (r : List ℕ). pairs_with g c r ++ rows (rest k (c + 1))) (rest_end k d l)
-        ∙ sym (whole_rows (rest k (c + 1)))
+    pub next_pair : (d : ℕ) → d < k → pairs_with g c (rest k d) ≡ one_pair g c d ++ pairs_with g c (rest k (d + 1))
+    next_pair d h = ap (pairs_with g c) (rest_step k d h) ∙ with_more g c d (rest k (d + 1))
 
-    pub from_pair : (d : ℕ) → d < k → pairs_from c d ≡ one_pair g c d ++ pairs_from c (d + 1)
-    unfolding pairs_from
-    from_pair d l =
-        ap (from_row d) (rest_step k c h)
-        ∙ ap (λ (r : List ℕ). pairs_with g c r ++ rows (rest k (c + 1))) (rest_step k d l)
-        ∙ ap (λ (r : List (ℕ × ℕ)). r ++ rows (rest k (c + 1))) (with_more g c d (rest k (d + 1)))
-        ∙ append_assoc (one_pair g c d) (pairs_with g c (rest k (d + 1))) (rows (rest k (c + 1)))
-        ∙ ap (λ (r : List (ℕ × ℕ)). one_pair g c d ++ r) (sym (ap (from_row (d + 1)) (rest_step k c h)))
+    pub no_pair : (d : ℕ) → k ≤ d → pairs_with g c (rest k d) ≡ []
+    unfolding pairs_with
+    no_pair d h = ap (pairs_with g c) (rest_end k d h)
 
 -- ---- a run over pairs, and then over others
 module _ {S : Type 0} (h : Holding S) (touch : ℕ → ℕ → Bool) (trials : ℕ) (qs : List (ℕ × ℕ)) where
@@ -105,40 +96,12 @@ module _ {S : Type 0} (h : Holding S) (touch : ℕ → ℕ → Bool) (trials : �
   unfolding go_on then
   run_off used ps s x xs e = run_append used ps s ∙ ap (go_on (run h touch trials used ps s).used (run h touch trials used ps s).sets) e
 
--- a run over one pair stops at that pair
-module _ (g : Geometry) (trials used c d : ℕ) (p : List ℕ) where
-  abbrev step : Outcome (List ℕ)
-  step = run by_leaders (touch_at g) trials used (one_pair g c d) p
+none_left : (l : List (ℕ × ℕ)) → false ≡ is_some (slice_get l 0) → l ≡ []
+none_left [] e = refl
+none_left (x ∷ l) e = absurd (true_T e)
 
-  not_stopped : stopped step ≡ false → step.left ≡ []
-  not_stopped e = go step.left e
-    where
-      go : (l : List (ℕ × ℕ)) → nonzero (length l) ≡ false → l ≡ []
-      go [] e = refl
-      go (x ∷ xs) e = absurd (true_T (sym e))
-
-  stopped_there : stopped step ≡ true → step.left ≡ (c, d) ∷ []
-  unfolding one_pair run
-  stopped_there e = go (pair_at g c d) e
-    where
-      asked : List ℕ
-      asked = by_leaders.asked p c d
-
-      last : (x y : Bool) (r : List ℕ) →
-          let o : Outcome (List ℕ) =
-          cond x (record { sets = asked; used = used; left = [] }) (cond y (record { sets = r; used = suc used; left = [] }) (record { sets = asked; used = used; left = (c, d) ∷ [] })) in
-          stopped o ≡ true → o.left ≡ (c, d) ∷ []
-      last true y r e = absurd (true_T e)
-      last false true r e = absurd (true_T e)
-      last false false r e = refl
-
-      go : (x : Bool) → stopped (run by_leaders (touch_at g) trials used (cond x ((c, d) ∷ []) []) p) ≡ true
-          → (run by_leaders (touch_at g) trials used (cond x ((c, d) ∷ []) []) p).left ≡ (c, d) ∷ []
-      go true e = last (by_leaders.same p c d) (ltb used trials) (cond (touch_at g c d) (by_leaders.join asked c d) asked) e
-      go false e = absurd (true_T e)
-
--- ---- the loop: w₀ are the words at first, w those now
-pub record Going (g : Geometry) (trials n k : ℕ) (w₀ w : List ℕ) (used c d : ℕ) : Type 0 where
+-- ---- the loops: w₀ are the words at first, w those now, and of the pairs `all` those of `left` are left
+pub record Going (g : Geometry) (trials n k : ℕ) (w₀ w : List ℕ) (used₀ : ℕ) (all : List (ℕ × ℕ)) (p : Progress) (left : List (ℕ × ℕ)) : Type 0 where
   pub frames : g.frames ≡ n
   pub few : k ≤ n
   pub room : 7 * n ≤ length w₀
@@ -146,93 +109,78 @@ pub record Going (g : Geometry) (trials n k : ℕ) (w₀ w : List ℕ) (used c d
   pub grown : Grown g k w
   pub falling : Falling (part w (6 * n) k)
   pub still : w ≡ over w₀ (6 * n) (part w (6 * n) k)
-  pub runs : run by_leaders (touch_at g) trials 0 (pairs_of g) (part w₀ (6 * n) k) ≡ run by_leaders (touch_at g) trials used (pairs_from g k c d) (part w (6 * n) k)
-  pub first : c ≤ k
-  pub second : d ≤ k
+  pub on : p.next ≡ None
+  pub runs : run by_leaders (touch_at g) trials used₀ all (part w₀ (6 * n) k) ≡ run by_leaders (touch_at g) trials p.used left (part w (6 * n) k)
 
-pub going_start : {ps : List ℤ} {v : ValidParams} {n : ℕ} (r : Ready ps v n) {k : ℕ} {w : List ℕ} (gr : Grown (geometry_at v n ps) k w) (trials : ℕ)
-    → 7 * n ≤ length w → Falling (part w (6 * n) k) → Going (geometry_at v n ps) trials n k w w 0 0 0
-going_start {ps} {v} {n} r {k} {w} gr trials l f =
-    let g = geometry_at v n ps in
-    record {
-      frames = frames r gr;
-      few = few_cells r gr;
-      room = l;
-      size = refl;
-      grown = gr;
-      falling = f;
-      still = sym (over_self w (6 * n) k (part w (6 * n) k) refl (omega (arith, few_cells r gr)));
-      runs = ap (λ (ps : List (ℕ × ℕ)). run by_leaders (touch_at g) trials 0 ps (part w (6 * n) k)) (sym (from_start g k (cell_count_lem r gr)));
-      first = omega arith;
-      second = omega arith;
-    }
+pub going_start : {ps : List ℤ} {v : ValidParams} {n : ℕ} (r : Ready ps v n) {k : ℕ} {w : List ℕ} (gr : Grown (geometry_at v n ps) k w) (trials used : ℕ)
+    → 7 * n ≤ length w → Falling (part w (6 * n) k) → {all left : List (ℕ × ℕ)} → left ≡ all
+    → Going (geometry_at v n ps) trials n k w w used all (record { used = used; next = None }) left
+going_start {ps} {v} {n} r {k} {w} gr trials used l f e = record {
+  frames = frames r gr;
+  few = few_cells r gr;
+  room = l;
+  size = refl;
+  grown = gr;
+  falling = f;
+  still = sym (over_self w (6 * n) k (part w (6 * n) k) refl (omega (arith, few_cells r gr)));
+  on = refl;
+  runs = ap (λ (qs : List (ℕ × ℕ)). run by_leaders (touch_at (geometry_at v n ps)) trials used qs (part w (6 * n) k)) (sym e);
+}
 
 -- the answer and the words of a run that left o
-abbrev Answer : Progress → (k n : ℕ) → (w₀ v : List ℕ) → Outcome (List ℕ) → Type 0
-Answer r k n w₀ v o = (r ≡ progress_of k o) × (v ≡ over w₀ (6 * n) o.sets)
+abbrev Answer : Progress → (n : ℕ) → (w₀ v : List ℕ) → Outcome (List ℕ) → Type 0
+Answer p n w₀ v o = (p ≡ progress_of o) × (v ≡ over w₀ (6 * n) o.sets)
 
-module _ {g : Geometry} {trials n k : ℕ} {w₀ w : List ℕ} {used c d : ℕ} (i : Going g trials n k w₀ w used c d) where
-  abbrev all : Outcome (List ℕ)
-  all = run by_leaders (touch_at g) trials 0 (pairs_of g) (part w₀ (6 * n) k)
+module _ {g : Geometry} {trials n k : ℕ} {w₀ w : List ℕ} {used₀ : ℕ} {all : List (ℕ × ℕ)} {p : Progress} {left : List (ℕ × ℕ)}
+    (i : Going g trials n k w₀ w used₀ all p left) where
+  abbrev whole : Outcome (List ℕ)
+  whole = run by_leaders (touch_at g) trials used₀ all (part w₀ (6 * n) k)
 
   abbrev leaders : List ℕ
   leaders = part w (6 * n) k
 
-  pub going_row : c < k → d ≡ k → Going g trials n k w₀ w used (c + 1) 0
-  going_row h e = record {
-    frames = i.frames;
-    few = i.few;
-    room = i.room;
-    size = i.size;
-    grown = i.grown;
-    falling = i.falling;
-    still = i.still;
-    runs = i.runs ∙ ap (λ (ps : List (ℕ × ℕ)). run by_leaders (touch_at g) trials used ps leaders) (from_row_lem g k c h d (omega arith));
-    first = omega arith;
-    second = omega arith;
-  }
-
-  pub going_end : k ≤ c → Answer (record { used = used; c = k; d = 0 }) k n w₀ w all
+  pub going_end : left ≡ [] → Answer p n w₀ w whole
   unfolding run
   going_end h =
-      let e : all ≡ record { sets = leaders; used = used; left = [] } =
-      i.runs ∙ ap (λ (ps : List (ℕ × ℕ)). run by_leaders (touch_at g) trials used ps leaders) (from_end g k c d h) in
-      rw e (refl, i.still)
+      let e : whole ≡ record { sets = leaders; used = p.used; left = [] } =
+      i.runs ∙ ap (λ (ps : List (ℕ × ℕ)). run by_leaders (touch_at g) trials p.used ps leaders) h in
+      rw e (ap (λ (x : Option (ℕ × ℕ)). record { used = p.used; next = x }) i.on, i.still)
 
-  module _ (h : c < k) (other : d ≡ k → ⊥) where
-    pub less : d < k
-    less = omega (arith, i.second, other)
-
-    -- what one step leaves, and the words v that it lays
+  -- the pairs xs are taken next, and then those of qs
+  module _ (xs qs : List (ℕ × ℕ)) (inside : Within k xs) (first : left ≡ xs ++ qs) where
     abbrev o : Outcome (List ℕ)
-    o = step g trials used c d leaders
+    o = run by_leaders (touch_at g) trials p.used xs leaders
 
     lead_length : length leaders ≡ k
     lead_length = part_length w (6 * n) k (omega (arith, i.few, i.room, i.size))
 
-    stands : Alike k o (run by_lowest (touch_at g) trials used (one_pair g c d) (root leaders))
-    stands = alike (touch_at g) trials k (one_pair g c d) (one_within g c d h less) used (subst (λ (m : ℕ). Stands m (root leaders) leaders) lead_length (own_stands i.falling))
+    stands : Alike k o (run by_lowest (touch_at g) trials p.used xs (root leaders))
+    stands = alike (touch_at g) trials k xs inside p.used (subst (λ (m : ℕ). Stands m (root leaders) leaders) lead_length (own_stands i.falling))
 
     laid : over w (6 * n) o.sets ≡ over w₀ (6 * n) o.sets
     laid =
         ap (λ (z : List ℕ). over z (6 * n) o.sets) i.still
         ∙ over_again w₀ (6 * n) leaders o.sets (omega (arith, i.room)) (stands.sets.size ∙ sym lead_length)
 
-    goes : all ≡ run by_leaders (touch_at g) trials used (one_pair g c d ++ pairs_from g k c (d + 1)) leaders
-    goes = i.runs ∙ ap (λ (ps : List (ℕ × ℕ)). run by_leaders (touch_at g) trials used ps leaders) (from_pair g k c h d less)
+    goes : whole ≡ run by_leaders (touch_at g) trials p.used (xs ++ qs) leaders
+    goes = i.runs ∙ ap (λ (ps : List (ℕ × ℕ)). run by_leaders (touch_at g) trials p.used ps leaders) first
 
-    module _ {u : ℕ} {s : Bool} {v : List ℕ} (eu : u ≡ o.used) (es : s ≡ stopped o) (ev : v ≡ over w (6 * n) o.sets) where
-      pub going_off : s ≡ true → Answer (record { used = u; c = c; d = d }) k n w₀ v all
-      going_off q =
-          let e : all ≡ record { sets = o.sets; used = o.used; left = (c, d) ∷ [] ++ pairs_from g k c (d + 1) } =
-          goes ∙ run_off by_leaders (touch_at g) trials (pairs_from g k c (d + 1)) used (one_pair g c d) leaders (c, d) [] (stopped_there g trials used c d leaders (sym es ∙ q)) in
-          rw e (ap (λ (m : ℕ). record { used = m; c = c; d = d }) eu, ev ∙ laid)
+    module _ {q : Progress} {v : List ℕ} (eq : q ≡ progress_of o) (ev : v ≡ over w (6 * n) o.sets) where
+      pub going_off : true ≡ is_some q.next → Answer q n w₀ v whole
+      going_off h = go o.left refl
+        where
+          go : (l : List (ℕ × ℕ)) → o.left ≡ l → Answer q n w₀ v whole
+          go [] e = absurd (true_T (sym (h ∙ ap (λ (z : Progress). is_some z.next) eq ∙ ap (λ (l : List (ℕ × ℕ)). is_some (slice_get l 0)) e)))
+          go (x ∷ l) e =
+              let f : whole ≡ record { sets = o.sets; used = o.used; left = x ∷ l ++ qs } = goes ∙ run_off by_leaders (touch_at g) trials qs p.used xs leaders x l e in
+              rw f (eq ∙ ap (λ (l : List (ℕ × ℕ)). record { used = o.used; next = slice_get l 0 }) e, ev ∙ laid)
 
-      pub going_on : s ≡ false → Going g trials n k w₀ v u c (d + 1)
-      going_on q =
+      pub going_on : false ≡ is_some q.next → Going g trials n k w₀ v used₀ all q qs
+      going_on h =
           let now : part v (6 * n) k ≡ o.sets =
           ap (λ (z : List ℕ). part z (6 * n) k) ev ∙ part_same w (6 * n) k o.sets (omega (arith, i.room, i.size)) stands.sets.size in
           let fit : 6 * n + length o.sets ≤ 7 * n = omega (arith, stands.sets.size, i.few) in
+          let none : o.left ≡ [] = none_left o.left (h ∙ ap (λ (z : Progress). is_some z.next) eq) in
           record {
             frames = i.frames;
             few = i.few;
@@ -241,9 +189,8 @@ module _ {g : Geometry} {trials n k : ℕ} {w₀ w : List ℕ} {used c d : ℕ} 
             grown = subst (Grown g k) (sym ev) (grown_over i.grown i.frames (6 * n) o.sets (omega arith) (omega arith) (omega (arith, i.room, i.size)));
             falling = subst Falling (sym now) stands.sets.falling;
             still = ev ∙ laid ∙ ap (over w₀ (6 * n)) (sym now);
+            on = ap (λ (z : Progress). z.next) eq ∙ ap (λ (l : List (ℕ × ℕ)). slice_get l 0) none;
             runs = goes
-                ∙ run_on by_leaders (touch_at g) trials (pairs_from g k c (d + 1)) used (one_pair g c d) leaders (not_stopped g trials used c d leaders (sym es ∙ q))
-                ∙ ap₂ (λ (m : ℕ) (z : List ℕ). run by_leaders (touch_at g) trials m (pairs_from g k c (d + 1)) z) (sym eu) (sym now);
-            first = omega arith;
-            second = omega (arith, less);
+                ∙ run_on by_leaders (touch_at g) trials qs p.used xs leaders none
+                ∙ ap₂ (λ (m : ℕ) (z : List ℕ). run by_leaders (touch_at g) trials m qs z) (sym (ap (λ (z : Progress). z.used) eq)) (sym now);
           }

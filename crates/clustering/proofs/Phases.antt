@@ -2,17 +2,17 @@
 use mathlib.Core.Path.{◌≡◌, sym, ap, ap₂, ◌∙◌, subst}
 use mathlib.Core.Logic.{inl}
 use mathlib.Core.List.{List}
-use Prim.Native.Nat.{ℕ, ◌+◌, ◌-◌, ◌*◌, ◌≤◌}
+use Prim.Native.Nat.{ℕ, ◌*◌, ◌≤◌}
 use native.Mathlib.Nat.{mul-le-mul}
 use native.Mathlib.Omega.{arith}
 use lib.IntN.{ℤ}
 use lib.ListN.{length, drop, replicate, length-take, length-replicate}
-use borrow.Rule.Slice.PartMut.{put_mid}
 use Rattle.lists.specs.Lists.{numbers, In}
 use Rattle.lists.specs.Words.{over, part, column, Clear}
 use Rattle.lists.specs.ListLaws.{map_same, in_numbers, length_numbers}
 use Rattle.lists.proofs.WordLaws.{over_again, over_length, over_apart}
 use Rattle.lists.proofs.PartLaws.{part_length, part_same, clear_after}
+use Rattle.hyperparams.specs.Params.{max_frames}
 use Rattle.hyperparams.specs.declared.ValidParams.{ValidParams}
 use Rattle.counting_tree.specs.Geometry.{Geometry}
 use Rattle.counting_tree.specs.Ready.{geometry_at, Ready}
@@ -25,15 +25,15 @@ use Rattle.partitions.specs.Leaders.{Falling, root}
 use Rattle.partitions.specs.LeaderLaws.{Stands, alone_stands}
 use Rattle.partitions.specs.Trials.{Outcome, run, by_lowest, by_leaders}
 use Rattle.partitions.specs.TrialLaws.{Within, Alike, alike}
+use Rattle.std.specs.Prelude.{slice_get}
 use Rattle.clustering.specs.declared.uniting.Progress.{Progress}
-use Rattle.clustering.specs.Uniting.{pairs_of, touch_at, progress_by, progress_of, uniting, lowest_at}
+use Rattle.clustering.specs.Uniting.{pairs_of, touch_at, progress_of, uniting, lowest_at}
 use Rattle.clustering.proofs.UnitingLaws.{in_pairs}
 use Rattle.clustering.specs.UniteAll.{link_at, meet_all, by_own_leaders, pairs_by}
 use Rattle.clustering.proofs.UniteAllLaws.{all_stand, lists_stand, later_lists}
 use Rattle.clustering.specs.Close.{sorted_cells, close_pairs}
 use Rattle.clustering.proofs.CloseLaws.{close_in}
 use Rattle.clustering.proofs.Held.{lawful, frames, few_cells, cell_count_lem}
-use Rattle.clustering.proofs.Lent.{lent, lent_length, back}
 use Rattle.clustering.proofs.Closing.{sorted_below}
 
 module _ {ps : List ℤ} {v : ValidParams} {n : ℕ} (r : Ready ps v n) {k : ℕ} {w : List ℕ} (gr : Grown (geometry_at v n ps) k w) (l : 7 * n ≤ length w) where
@@ -43,57 +43,44 @@ module _ {ps : List ℤ} {v : ValidParams} {n : ℕ} (r : Ready ps v n) {k : ℕ
   few : k ≤ n
   few = few_cells r gr
 
-  pub few_leaders : length (part w (6 * n) (6 * n + k - 6 * n)) ≤ 65536
-  few_leaders = omega (arith, lent_length w n k few l, few, r.few)
+  pub can_reset : (k ≤ n) × (n ≤ max_frames) × (7 * n ≤ length w)
+  can_reset = (few, r.few, l)
 
   -- ---- at the end, from leaders that stand for sets with the lowest cells `low`: each cell its lowest
   module _ (w₂ : List ℕ) (room₂ : 7 * n ≤ length w₂) {low : ℕ → ℕ} (st : Stands k low (part w₂ (6 * n) k)) where
-    falling_lent : Falling (part w₂ (6 * n) (6 * n + k - 6 * n))
-    falling_lent = subst Falling (sym (lent w₂ n k few room₂)) st.falling
+    can_flatten : (k ≤ n) × (n ≤ max_frames) × (7 * n ≤ length w₂) × Falling (part w₂ (6 * n) k)
+    can_flatten = (few, r.few, room₂, st.falling)
 
-    lowest_laid : {f : List ℕ} → f ≡ column (root (part w₂ (6 * n) (6 * n + k - 6 * n))) (length (part w₂ (6 * n) (6 * n + k - 6 * n)))
-        → put_mid (6 * n) (6 * n + k - 6 * n) w₂ f ≡ over w₂ (6 * n) (column low k)
-    lowest_laid {f} e =
-        let i : f ≡ column low k =
-        e
-        ∙ ap₂ (λ (p : List ℕ) (m : ℕ). column (root p) m) (lent w₂ n k few room₂) (lent_length w₂ n k few room₂)
-        ∙ map_same (root (part w₂ (6 * n) k)) low (numbers k) (λ c j. st.roots c (in_numbers k c j)) in
-        back w₂ n k few room₂ f (ap length i ∙ length_numbers low k) ∙ ap (over w₂ (6 * n)) i
+    lowest_laid : {w₃ : List ℕ} → w₃ ≡ over w₂ (6 * n) (column (root (part w₂ (6 * n) k)) k) → w₃ ≡ over w₂ (6 * n) (column low k)
+    lowest_laid e = e ∙ ap (over w₂ (6 * n)) (map_same (root (part w₂ (6 * n) k)) low (numbers k) (λ c j. st.roots c (in_numbers k c j)))
 
   -- ---- where leaders s are laid over the leaders q of u
   module _ {u : List ℕ} (q : List ℕ) (laid : u ≡ over w (6 * n) q) (size : length q ≡ k) {low : ℕ → ℕ} {s : List ℕ} (st : Stands k low s) {w₂ : List ℕ} (e₂ : w₂ ≡ over u (6 * n) s) where
     second : w₂ ≡ over w (6 * n) s
     second = e₂ ∙ ap (λ (z : List ℕ). over z (6 * n) s) laid ∙ over_again w (6 * n) q s (omega arith) (st.size ∙ sym size)
 
-    pub room_second : 7 * n ≤ length w₂
+    room_second : 7 * n ≤ length w₂
     room_second = omega (arith, ap length second, over_length w (6 * n) s (omega (arith, st.size, few)))
 
     stand_second : Stands k low (part w₂ (6 * n) k)
     stand_second = subst (Stands k low) (sym (ap (λ (z : List ℕ). part z (6 * n) k) second ∙ part_same w (6 * n) k s (omega arith) st.size)) st
 
-    pub falling_second : Falling (part w₂ (6 * n) (6 * n + k - 6 * n))
-    falling_second = falling_lent w₂ room_second stand_second
+    pub flatten_second : (k ≤ n) × (n ≤ max_frames) × (7 * n ≤ length w₂) × Falling (part w₂ (6 * n) k)
+    flatten_second = can_flatten w₂ room_second stand_second
 
-    pub lowest_words : {f : List ℕ} → f ≡ column (root (part w₂ (6 * n) (6 * n + k - 6 * n))) (length (part w₂ (6 * n) (6 * n + k - 6 * n)))
-        → put_mid (6 * n) (6 * n + k - 6 * n) w₂ f ≡ over w (6 * n) (column low k)
+    pub lowest_words : {w₃ : List ℕ} → w₃ ≡ over w₂ (6 * n) (column (root (part w₂ (6 * n) k)) k) → w₃ ≡ over w (6 * n) (column low k)
     lowest_words e =
         lowest_laid w₂ room_second stand_second e
         ∙ ap (λ (z : List ℕ). over z (6 * n) (column low k)) second
         ∙ over_again w (6 * n) s (column low k) (omega arith) (length_numbers low k ∙ sym st.size)
 
   -- ---- each cell by itself
-  module _ {q : List ℕ} (eq : q ≡ column (λ c. c) (length (part w (6 * n) (6 * n + k - 6 * n)))) where
-    abbrev w₁ : List ℕ
-    w₁ = put_mid (6 * n) (6 * n + k - 6 * n) w q
+  module _ {w₁ : List ℕ} (first : w₁ ≡ over w (6 * n) (column (λ c. c) k)) where
+    abbrev q : List ℕ
+    q = column (λ c. c) k
 
-    alone : q ≡ column (λ c. c) k
-    alone = eq ∙ ap (column (λ c. c)) (lent_length w n k few l)
-
-    pub size : length q ≡ k
-    size = ap length alone ∙ length_numbers (λ c. c) k
-
-    pub first : w₁ ≡ over w (6 * n) q
-    first = back w n k few l q size
+    size : length q ≡ k
+    size = length_numbers (λ c. c) k
 
     same_first : length w₁ ≡ length w
     same_first = ap length first ∙ over_length w (6 * n) q (omega (arith, size, few))
@@ -105,7 +92,7 @@ module _ {ps : List ℤ} {v : ValidParams} {n : ℕ} (r : Ready ps v n) {k : ℕ
     grown_first = subst (Grown g k) (sym first) (grown_over gr (frames r gr) (6 * n) q (omega arith) (omega (arith, size, few)) (omega arith))
 
     leaders_first : part w₁ (6 * n) k ≡ column (λ c. c) k
-    leaders_first = ap (λ (z : List ℕ). part z (6 * n) k) first ∙ part_same w (6 * n) k q (omega arith) size ∙ alone
+    leaders_first = ap (λ (z : List ℕ). part z (6 * n) k) first ∙ part_same w (6 * n) k q (omega arith) size
 
     pub falling_first : Falling (part w₁ (6 * n) k)
     falling_first = subst Falling (sym leaders_first) (alone_stands k).falling
@@ -122,8 +109,8 @@ module _ {ps : List ℤ} {v : ValidParams} {n : ℕ} (r : Ready ps v n) {k : ℕ
       unfolding uniting
       as_lowest = subst (λ (p : List ℕ). Alike k (o p) (uniting g trials)) (sym leaders_first) (alike (touch_at g) trials k (pairs_of g) within 0 (alone_stands k))
 
-      pub progress : {x : Progress} → x ≡ progress_of k (o (part w₁ (6 * n) k)) → x ≡ progress_of k (uniting g trials)
-      progress e = e ∙ ap₂ (progress_by k) as_lowest.used as_lowest.left
+      pub progress : {x : Progress} → x ≡ progress_of (o (part w₁ (6 * n) k)) → x ≡ progress_of (uniting g trials)
+      progress e = e ∙ ap₂ (λ (u : ℕ) (ps : List (ℕ × ℕ)). record { used = u; next = slice_get ps 0 }) as_lowest.used as_lowest.left
 
       pub tried_stand : Stands k (lowest_at g trials) (o (part w₁ (6 * n) k)).sets
       unfolding lowest_at
@@ -210,14 +197,14 @@ module _ {ps : List ℤ} {v : ValidParams} {n : ℕ} (r : Ready ps v n) {k : ℕ
           same_met : length w₂ ≡ length w
           same_met = ap length e₂ ∙ over_length (over u (6 * n) P) (8 * n) Z (omega (arith, short, size_p, same_close)) ∙ size_p ∙ same_close
 
-          pub room_met : 7 * n ≤ length w₂
+          room_met : 7 * n ≤ length w₂
           room_met = omega (arith, same_met)
 
-          pub falling_met : Falling (part w₂ (6 * n) (6 * n + k - 6 * n))
-          falling_met = falling_lent w₂ room_met met_stand
+          pub flatten_met : (k ≤ n) × (n ≤ max_frames) × (7 * n ≤ length w₂) × Falling (part w₂ (6 * n) k)
+          flatten_met = can_flatten w₂ room_met met_stand
 
           -- ---- each cell its lowest
-          module _ {f : List ℕ} (ef : f ≡ column (root (part w₂ (6 * n) (6 * n + k - 6 * n))) (length (part w₂ (6 * n) (6 * n + k - 6 * n)))) where
+          module _ {w₃ : List ℕ} (ef : w₃ ≡ over w₂ (6 * n) (column (root (part w₂ (6 * n) k)) k)) where
             abbrev F : List ℕ
             F = column (lowest_at g (n * n)) k
 
@@ -230,7 +217,7 @@ module _ {ps : List ℤ} {v : ValidParams} {n : ℕ} (r : Ready ps v n) {k : ℕ
             size_w : (q : List ℕ) → length q ≡ k → length (over w (6 * n) q) ≡ length w
             size_w q e = over_length w (6 * n) q (omega (arith, few))
 
-            laid_met : put_mid (6 * n) (6 * n + k - 6 * n) w₂ f ≡ over (over w (6 * n) F) (8 * n) Z
+            laid_met : w₃ ≡ over (over w (6 * n) F) (8 * n) Z
             laid_met =
                 lowest_laid w₂ room_met met_stand ef
                 ∙ ap (λ (z : List ℕ). over z (6 * n) F)
@@ -239,7 +226,7 @@ module _ {ps : List ℤ} {v : ValidParams} {n : ℕ} (r : Ready ps v n) {k : ℕ
                 ∙ ap (λ (z : List ℕ). over z (8 * n) Z) (over_again w (6 * n) P F (omega arith) (F_length ∙ sym met_stand.size))
 
             -- ---- and the other words cleared
-            pub lowest_met : {w₄ : List ℕ} → w₄ ≡ over (put_mid (6 * n) (6 * n + k - 6 * n) w₂ f) (8 * n) (replicate (2 * n) 0)
+            pub lowest_met : {w₄ : List ℕ} → w₄ ≡ over w₃ (8 * n) (replicate (2 * n) 0)
                 → w₄ ≡ over (over w (6 * n) (column (lowest_at (geometry_at v n ps) (n * n)) k)) (8 * n) (replicate (2 * n) 0)
             lowest_met e =
                 e

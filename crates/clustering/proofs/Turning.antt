@@ -1,25 +1,22 @@
 -- Asking by turns in the program: one side of a turn by the places of a cell, the turns that are still to come, and what they tell of two cells.
 use mathlib.Core.Path.{◌≡◌, refl, sym, ap, ap₂, ◌∙◌}
-use mathlib.Core.Bool.{Bool, true, false, not, ◌||◌, cond}
+use mathlib.Core.Bool.{Bool, true, false, ◌||◌, cond}
 use mathlib.Core.List.{List}
-use Prim.Native.Nat.{ℕ, ◌+◌, ◌-◌, ◌*◌, ◌<◌, ◌≤◌, max}
+use Prim.Native.Nat.{ℕ, ◌+◌, ◌<◌, ◌≤◌, max}
 use native.Mathlib.Omega.{arith}
-use borrow.Author.Tests.{lt-ltb, le-ltb, not-true, not-false}
-use lib.Dec.{eqb}
+use borrow.Author.Tests.{lt-ltb, le-ltb}
 use lib.IntN.{ℤ}
-use lib.ListN.{get_or}
+use lib.ListN.{length, get_or}
+use Rattle.std.specs.Prelude.{Option, Some}
 use Rattle.lists.specs.Lists.{any, In, nonzero}
 use Rattle.lists.specs.Words.{rest}
 use Rattle.lists.specs.ListLaws.{true_T, T_true, any_in}
-use Rattle.lists.proofs.PartLaws.{part_at}
 use Rattle.lists.proofs.LoopLaws.{rest_start, rest_step, rest_end}
 use Rattle.hyperparams.specs.declared.ValidParams.{ValidParams}
 use Rattle.counting_tree.specs.Geometry.{Geometry}
 use Rattle.counting_tree.specs.Ready.{geometry_at, Ready}
 use Rattle.cells_grid.specs.Cells.{members, core, count}
 use Rattle.cells_grid.specs.Arrangement.{cell_at}
-use Rattle.cells_grid.specs.Places.{end_in}
-use Rattle.cells_grid.proofs.ArrangementLaws.{cell_size, cell_end_le, cell_places, place_below}
 use Rattle.core_cells.specs.Forest.{tree_frames, Grown}
 use Rattle.core_cells.specs.Settling.{Apart}
 use Rattle.clustering.specs.Clusters.{touches}
@@ -28,52 +25,26 @@ use Rattle.clustering.specs.UniteAll.{link_at}
 use Rattle.clustering.proofs.UniteAllLaws.{touch_links}
 use Rattle.clustering.specs.Turns.{size_at, asked_at, turn_at}
 use Rattle.clustering.specs.TurnsLaws.{any_stretches, turns_link}
-use Rattle.clustering.proofs.Held.{lawful, frames, core_held}
 use Rattle.clustering.proofs.Touching.{touch_none}
 
--- ---- one side of a turn: m is the size of cell c, s where its frames begin, i its frame j, a whether that is core, b whether it has a count in d
-module _ {ps : List ℤ} {v : ValidParams} {n : ℕ} (r : Ready ps v n) {k : ℕ} {w : List ℕ} (gr : Grown (geometry_at v n ps) k w) {c : ℕ} (hc : c < k) {m : ℕ} (em : m ≡ end_in w n k c - get_or w (2 * n + c) 0) where
-  abbrev g : Geometry
-  g = geometry_at v n ps
-
-  abbrev end : ℕ
-  end = end_in w n k c
-
-  pub size_held : m ≡ size_at (geometry_at v n ps) c
-  size_held = omega (arith, em, cell_size g (lawful r gr) gr.cored.cells n (frames r gr) c hc refl refl)
+-- ---- one side of a turn: xs are the frames of cell c, a says whether frame j of them is core, b whether it has a count in d
+module _ (g : Geometry) (c : ℕ) {xs : List ℕ} (ex : xs ≡ members g (cell_at g c)) where
+  pub size_held : length xs ≡ size_at g c
+  size_held = ap length ex
 
   module _ (d : ℕ) {j : ℕ} where
-    pub past_end : m ≤ j → false ≡ asked_at (geometry_at v n ps) c d j
+    pub past_end : length xs ≤ j → false ≡ asked_at g c d j
     unfolding asked_at
-    past_end h = rw (le-ltb j (size_at g c) (omega (arith, size_held)))
+    past_end h = rw (← ex, le-ltb j (length xs) h)
 
-    module _ (h : j < m) {s : ℕ} (es : s ≡ get_or w (2 * n + c) 0) where
-      pub place_low : s + j < n
-      place_low = omega (arith, em, es, cell_end_le g (lawful r gr) gr.cored.cells n (frames r gr) c hc es refl)
+    module _ (h : j < length xs) {a : Bool} (ea : a ≡ core g (get_or xs j 0)) where
+      pub not_core : a ≡ false → false ≡ asked_at g c d j
+      unfolding asked_at
+      not_core f = rw (← ex, lt-ltb j (length xs) h, sym ea ∙ f)
 
-      module _ {i : ℕ} (ei : i ≡ get_or w (3 * n + (s + j)) 0) where
-        pub frame_low : i < n
-        frame_low = omega (arith, ei, place_below g (lawful r gr) gr.cored.cells n (frames r gr) (s + j) place_low)
-
-        frame_is : get_or (members g (cell_at g c)) j 0 ≡ i
-        frame_is =
-            let e : 3 * n + s + j ≡ 3 * n + (s + j) = omega arith in
-            ap (λ (l : List ℕ). get_or l j 0) (sym (cell_places g (lawful r gr) gr.cored.cells n (frames r gr) c hc es refl))
-            ∙ part_at w (3 * n + s) (end - s) j (omega (arith, em, es))
-            ∙ ap (λ (p : ℕ). get_or w p 0) e
-            ∙ sym ei
-
-        module _ {a : Bool} (ea : a ≡ eqb (get_or w (4 * n + i) 0) 1) where
-          is_core_lem : core g i ≡ a
-          is_core_lem = sym (ea ∙ core_held r gr i frame_low)
-
-          pub not_core : not a ≡ true → false ≡ asked_at (geometry_at v n ps) c d j
-          unfolding asked_at
-          not_core f = rw (lt-ltb j (size_at g c) (omega (arith, size_held)), frame_is, is_core_lem, not-true a f)
-
-          pub by_count : not a ≡ false → {b : Bool} → b ≡ nonzero (count (geometry_at v n ps) i (cell_at (geometry_at v n ps) d)) → b ≡ asked_at (geometry_at v n ps) c d j
-          unfolding asked_at
-          by_count f e = rw (lt-ltb j (size_at g c) (omega (arith, size_held)), frame_is, is_core_lem, not-false a f) e
+      pub by_count : a ≡ true → {b : Bool} → b ≡ nonzero (count g (get_or xs j 0) (cell_at g d)) → b ≡ asked_at g c d j
+      unfolding asked_at
+      by_count f e = rw (← ex, lt-ltb j (length xs) h, sym ea ∙ f) e
 
 -- ---- the turns from j on tell what all from `from` on do
 pub record Turning (g : Geometry) (c d from to j : ℕ) : Type 0 where
@@ -149,3 +120,9 @@ module _ {ps : List ℤ} {v : ValidParams} {n : ℕ} (r : Ready ps v n) {c d k :
   link_some z =
       let t = any_in (λ q. nonzero (count geo q (cell_at geo d))) z.0 (tree_frames geo c) z.1 (true_T z.2) in
       sym (T_true (link_at geo c d) (touch_links geo c d t))
+
+  -- what is told, by the one or the other
+  pub link_told : (t : Bool) → (◌≡◌ {A = Option Bool} (Some t) (Some true) → (q : ℕ) × In q (tree_frames (geometry_at v n ps) c) × (nonzero (count (geometry_at v n ps) q (cell_at (geometry_at v n ps) d)) ≡ true))
+      → (◌≡◌ {A = Option Bool} (Some t) (Some false) → Apart v n ps c d) → t ≡ link_at (geometry_at v n ps) c d
+  link_told true f h = link_some (f refl)
+  link_told false f h = link_none (h refl)

@@ -9,6 +9,7 @@ pub mod RunsLaws
 pub mod Turns
 pub mod TurnsLaws
 pub mod Close
+pub mod FrameLabels
 pub mod Numbering
 pub mod NumberingLaws
 pub mod AnyLabels

@@ -1,8 +1,8 @@
 -- Uniting the linked core cells by cell number: the pairs in the order in which they are tried, and the sets that the trials leave. Definitions only.
-use Rattle.std.specs.Prelude.{Bool, ◌&&◌, ℕ, length}
+use Rattle.std.specs.Prelude.{Bool, ◌&&◌, ℕ, length, slice_get}
 use Rattle.std.proofs.Math.Bool.{cond}
 use mathlib.Core.List.{List, [], ◌∷◌, map}
-use Rattle.lists.specs.Lists.{numbers, keep, concat, nonzero}
+use Rattle.lists.specs.Lists.{numbers, keep, concat}
 use Rattle.counting_tree.specs.Geometry.{Geometry}
 use Rattle.cells_grid.specs.Cells.{cells, listed, core_cell}
 use Rattle.cells_grid.specs.Arrangement.{cell_at}
@@ -46,14 +46,6 @@ module _ (g : Geometry) where
   unfolding uniting
   lowest_at trials = (uniting trials).sets
 
--- whether a pair still needs a trial
-abbrev pub stopped : {S : Type 0} → Outcome S → Bool
-stopped o = nonzero (length o.left)
-
--- the trials used, and the pair that still needs one, of k cells
-abbrev pub progress_by : ℕ → ℕ → List (ℕ × ℕ) → Progress
-progress_by k used [] = record { used = used; c = k; d = 0 }
-progress_by k used ((c, d) ∷ ps) = record { used = used; c = c; d = d }
-
-abbrev pub progress_of : {S : Type 0} → ℕ → Outcome S → Progress
-progress_of k o = progress_by k o.used o.left
+-- the trials used, and the pair that still needs one, if one does
+abbrev pub progress_of : {S : Type 0} → Outcome S → Progress
+progress_of o = record { used = o.used; next = slice_get o.left 0 }

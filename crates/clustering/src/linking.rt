@@ -1,22 +1,21 @@
 // Whether two core cells are linked. The frames of both are asked by turns: so a link is found early, from whichever side has it.
-ghost use Rattle.std.specs.Prelude.{◌≡◌, true, ℕ, ◌+◌, ◌-◌, ◌*◌, ◌<◌, ◌≤◌, max, length, get_or};
+ghost use Rattle.std.specs.Prelude.{◌≡◌, true, false, Some, IfSome, ℕ, ◌+◌, ◌-◌, ◌*◌, ◌<◌, ◌≤◌, length, get_or};
 ghost use Rattle.lists.specs.Lists.{any, In, nonzero};
 ghost use Rattle.lists.specs.Words.{rest};
-ghost use Rattle.counting_tree.specs.declared.IntersectionType.TheVariants.{Disjoint, FullyCovered};
-ghost use Rattle.counting_tree.specs.Ready.{geometry_at, Ready};
+ghost use Rattle.counting_tree.specs.Given.{geometry};
 ghost use Rattle.cells_grid.specs.Arrangement.{cell_at};
 ghost use Rattle.cells_grid.specs.Cells.{count};
 ghost use Rattle.cells_grid.specs.Places.{end_in};
-ghost use Rattle.core_cells.specs.Forest.{tree_frames, Grown};
+ghost use Rattle.core_cells.specs.Forest.{tree_frames};
 ghost use Rattle.core_cells.specs.Settling.{Apart};
-ghost use Rattle.core_cells.specs.RootBox.{root_unless};
+ghost use Rattle.core_cells.specs.RootBox.{root_box};
 ghost use Rattle.clustering.specs.UniteAll.{link_at};
 ghost use Rattle.clustering.specs.Turns.{asked_at, turn_at};
 
+use cells_grid::STARTS;
 use cells_grid::listing::TREES;
-use cells_grid::{PLACES, STARTS};
-use counting_tree::{Box, IntersectionType};
-use hyperparams::ValidParams;
+use core_cells::CoreCells;
+use counting_tree::Box;
 use lists::Word;
 
 // How many turns are taken before it is asked what whole numbers tell of all frames at once: most linked cells are found in few turns.
@@ -30,145 +29,93 @@ pub fn size_of(work: &[Word], n: usize, k: usize, c: usize) -> usize
     cells_grid::cell_end(work, n, k, c) - lists::word(work, STARTS * n + c)
 }
 
-// The larger of two numbers.
-fn larger(a: usize, b: usize) -> usize
-    ensures { result ≡ max a b }
-{
-    if a < b {
-        return b;
-    }
-    a
-}
-
-// A cell whose tree is asked, with what `core_cells::reaches` takes of it: that is worked out once for all frames.
+// A cell whose tree is asked, with its root box where that is asked before the cell's frames: it is worked out once for all frames.
 #[derive(Clone, Copy)]
 struct Target {
     cell: usize,
-    first: bool,
-    root: Box,
+    root: Option<Box>,
 }
 
 // Cell c, to have its tree asked.
-fn target_of(points: &[i16], v: ValidParams, n: usize, k: usize, work: &[Word], c: usize) -> Target
-    requires { Ready points.now v n × Grown (geometry_at v n points.now) k work.now × (c < k) }
+fn target_of(cells: &CoreCells, c: usize) -> Target
+    requires { c < cells.now.k }
     ensures cell { result.cell ≡ c }
-    ensures root { result.root ≡ root_unless result.first v n points.now result.cell }
+    ensures root { let f = cells.now.frames in IfSome result.root (λ b. b ≡ root_box f.v f.n f.points.now result.cell) }
 {
-    let first = core_cells::frames_first(v, n, k, work, c);
-    let root = core_cells::root_unless(first, points, v, n, k, work, c);
     Target {
         cell: c,
-        first,
-        root,
+        root: cells.root_first(c),
     }
 }
 
 // One side of a turn: whether frame j of cell c, where c has so many, is a core frame and has a non-zero count in the tree of cell t.
-fn asks(
-    points: &[i16],
-    v: ValidParams,
-    n: usize,
-    k: usize,
-    work: &[Word],
-    c: usize,
-    t: Target,
-    j: usize,
-) -> bool
-    requires { Ready points.now v n × Grown (geometry_at v n points.now) k work.now × (c < k) × (t.cell < k) × (t.root ≡ root_unless t.first v n points.now t.cell) }
-    ensures { result ≡ asked_at (geometry_at v n points.now) c t.cell j }
+fn asks(cells: &CoreCells, c: usize, t: Target, j: usize) -> bool
+    requires { let f = cells.now.frames in (c < cells.now.k) × (t.cell < cells.now.k) × IfSome t.root (λ b. b ≡ root_box f.v f.n f.points.now t.cell) }
+    ensures { result ≡ asked_at (geometry cells.now.frames) c t.cell j }
 {
-    if j >= size_of(work, n, k, c) {
+    let own = cells.frames_of(c);
+    if j >= own.len() {
         return false;
     }
-    let start = lists::word(work, STARTS * n + c);
-    let i = lists::word(work, PLACES * n + (start + j));
-    if !cells_grid::is_core(work, n, i) {
+    let i = own[j] as usize;
+    if !cells.is_core(i) {
         return false;
     }
-    let root = t.root;
-    core_cells::reaches(points, v, n, k, work, i, t.cell, t.first, root)
+    cells.reaches(i, t.cell, t.root)
 }
 
 // Whether one of the turns from `from` up to `to` finds a link of the cells a and b.
-fn by_turns(
-    points: &[i16],
-    v: ValidParams,
-    n: usize,
-    k: usize,
-    work: &[Word],
-    a: Target,
-    b: Target,
-    from: usize,
-    to: usize,
-) -> bool
-    requires ready { Ready points.now v n × Grown (geometry_at v n points.now) k work.now }
-    requires first_cell { (a.cell < k) × (a.root ≡ root_unless a.first v n points.now a.cell) }
-    requires second_cell { (b.cell < k) × (b.root ≡ root_unless b.first v n points.now b.cell) }
-    ensures { result ≡ any (turn_at (geometry_at v n points.now) a.cell b.cell) (rest to from) }
+fn by_turns(cells: &CoreCells, a: Target, b: Target, from: usize, to: usize) -> bool
+    requires first_cell { let f = cells.now.frames in (a.cell < cells.now.k) × IfSome a.root (λ x. x ≡ root_box f.v f.n f.points.now a.cell) }
+    requires second_cell { let f = cells.now.frames in (b.cell < cells.now.k) × IfSome b.root (λ x. x ≡ root_box f.v f.n f.points.now b.cell) }
+    ensures { result ≡ any (turn_at (geometry cells.now.frames) a.cell b.cell) (rest to from) }
 {
-    let mut j = from;
-    while j < to {
-        if asks(points, v, n, k, work, a.cell, b, j) {
+    for j in from..to {
+        if asks(cells, a.cell, b, j) {
             return true;
         }
-        if asks(points, v, n, k, work, b.cell, a, j) {
+        if asks(cells, b.cell, a, j) {
             return true;
         }
-        j += 1;
     }
     false
 }
 
-// What the core frames of c and d tell by whole numbers before a tree of them is asked; Intersecting says nothing. (Where neither has a tree it is not asked:
+// What the core frames of c and d tell by whole numbers before a tree of them is asked. (Where neither has a tree it is not asked:
 // a frame then asks the other cell's frames itself, and only where the root box does not tell.)
-fn told_by_cells(
-    points: &[i16],
-    v: ValidParams,
-    n: usize,
-    k: usize,
-    work: &[Word],
-    c: usize,
-    d: usize,
-) -> IntersectionType
-    requires { Ready points.now v n × Grown (geometry_at v n points.now) k work.now × (c < k) × (d < k) }
-    ensures touches { result ≡ FullyCovered → (let g = geometry_at v n points.now in (q : ℕ) × In q (tree_frames g c) × (nonzero (count g q (cell_at g d)) ≡ true)) }
-    ensures apart { result ≡ Disjoint → Apart v n points.now c d }
+fn told_by_cells(cells: &CoreCells, c: usize, d: usize) -> Option<bool>
+    requires { (c < cells.now.k) × (d < cells.now.k) }
+    ensures touches { result ≡ Some true → (let g = geometry cells.now.frames in (q : ℕ) × In q (tree_frames g c) × (nonzero (count g q (cell_at g d)) ≡ true)) }
+    ensures apart { let f = cells.now.frames in result ≡ Some false → Apart f.v f.n f.points.now c d }
 {
+    let n = cells.frames.n;
     let trees = TREES * n;
-    if larger(lists::word(work, trees + c), lists::word(work, trees + d)) <= 1 {
-        return IntersectionType::Intersecting;
+    let tree = lists::word(cells.work, trees + c).max(lists::word(cells.work, trees + d));
+    if tree <= 1 {
+        return None;
     }
-    core_cells::pairs::settled_by_cells(points, v, n, k, work, c, d)
+    cells.settled_by_cells(c, d)
 }
 
 // Whether core cells c and d are linked: whether a core frame of one has a non-zero count in the tree of the other.
-pub fn is_linked(
-    points: &[i16],
-    v: ValidParams,
-    n: usize,
-    k: usize,
-    work: &[Word],
-    c: usize,
-    d: usize,
-) -> bool
-    requires { Ready points.now v n × Grown (geometry_at v n points.now) k work.now × (c < k) × (d < k) }
-    ensures { result ≡ link_at (geometry_at v n points.now) c d }
+pub fn is_linked(cells: &CoreCells, c: usize, d: usize) -> bool
+    requires { (c < cells.now.k) × (d < cells.now.k) }
+    ensures { result ≡ link_at (geometry cells.now.frames) c d }
 {
-    if core_cells::spans::apart(points, v, n, k, work, c, d) {
+    if cells.apart(c, d) {
         return false;
     }
-    let a = target_of(points, v, n, k, work, c);
-    let b = target_of(points, v, n, k, work, d);
-    if by_turns(points, v, n, k, work, a, b, 0, TURNS) {
+    let a = target_of(cells, c);
+    let b = target_of(cells, d);
+    if by_turns(cells, a, b, 0, TURNS) {
         return true;
     }
-    let most = larger(size_of(work, n, k, c), size_of(work, n, k, d));
+    let most = cells.frames_of(c).len().max(cells.frames_of(d).len());
     if most <= TURNS {
         return false;
     }
-    match told_by_cells(points, v, n, k, work, c, d) {
-        IntersectionType::Disjoint => false,
-        IntersectionType::FullyCovered => true,
-        IntersectionType::Intersecting => by_turns(points, v, n, k, work, a, b, TURNS, most),
+    if let Some(told) = told_by_cells(cells, c, d) {
+        return told;
     }
+    by_turns(cells, a, b, TURNS, most)
 }

@@ -12,7 +12,7 @@ use Rattle.lists.specs.CountLaws.{keep_append, keep_le}
 use Rattle.lists.proofs.WordLaws.{over_length, over_nil, over_snoc}
 use Rattle.lists.proofs.PartLaws.{part_length, part_snoc, part_below, get_under}
 use Rattle.core_cells.specs.Forest.{core_among, CanGather}
-use Rattle.core_cells.specs.NearestLaws.{among_none}
+use Rattle.core_cells.specs.AmongLaws.{among_none}
 
 -- the words w say that frame i is core
 abbrev marked : List ℕ → ℕ → ℕ → Bool

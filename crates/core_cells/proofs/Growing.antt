@@ -13,7 +13,7 @@ use Rattle.cells_grid.specs.Arrangement.{Cored}
 use Rattle.cells_grid.proofs.ArrangementLaws.{cored_over}
 use Rattle.core_cells.specs.Forest.{tree_size, tree_words, nodes_to, forest_to, tree_word}
 use Rattle.core_cells.specs.ForestLaws.{forest_length, forest_next, tree_length, nodes_next}
-use Rattle.core_cells.proofs.Building.{Ripe, cells_few, nodes_room}
+use Rattle.core_cells.proofs.OneTree.{Ripe, cells_few, nodes_room}
 
 pub record Growing (g : Geometry) (n k few : ℕ) (w₀ v : List ℕ) (at c : ℕ) : Type 0 where
   pub ripe : Ripe g n k w₀

@@ -1,10 +1,8 @@
-pub mod Building
-pub mod Counting
+pub mod FarReach
 pub mod Gathering
 pub mod Growing
+pub mod Held
 pub mod Looking
-pub mod Pairing
-pub mod Placing
+pub mod OneTree
 pub mod Reaching
-pub mod Rooted
 pub mod Spanning

@@ -1,216 +1,178 @@
 -- What a cell's root box and its frames say of the count in its tree: by whole numbers of the box, a core frame nearer than t, all of them out of reach, or their own paths.
 use mathlib.Core.Path.{◌≡◌, refl, sym, ap, subst, ◌∙◌}
-use mathlib.Core.Bool.{Bool, true, false, not, cond}
+use mathlib.Core.Bool.{Bool, true, false, cond, and-false}
 use mathlib.Core.List.{List}
-use Prim.Native.Nat.{ℕ, ◌+◌, ◌-◌, ◌*◌, ◌<◌, ◌≤◌}
+use Prim.Native.Nat.{ℕ, ◌*◌, ◌<◌, ◌≤◌}
 use native.Mathlib.Omega.{arith}
-use borrow.Author.Tests.{not-false}
-use lib.IntN.{ℤ}
-use lib.Dec.{ltb, eqb}
+use borrow.Author.Tests.{lt-ltb, le-ltb, le-leb, lt-leb}
+use lib.Dec.{ltb}
 use lib.ListN.{length, get_or, take}
 use lib.Ieee.{Float}
-use Rattle.lists.specs.Lists.{In, Below, any, nonzero}
-use Rattle.lists.specs.Words.{part}
-use Rattle.lists.specs.ListLaws.{true_T, T_true, both_ways, nonzero_eqb, any_in}
-use Rattle.hyperparams.specs.declared.ValidParams.{ValidParams}
+use Rattle.std.specs.Prelude.{Option, Some, None, is_some}
+use Rattle.lists.specs.Lists.{In, keep, any, nonzero}
+use Rattle.lists.specs.ListLaws.{true_T, T_true, both_ways, any_in, at_in, keep_in}
 use Rattle.hyperparams.specs.Params.{float}
 use Rattle.counting_tree.specs.declared.Box.{Box}
+use Rattle.counting_tree.specs.declared.run.Frames.{Frames}
 use Rattle.counting_tree.specs.declared.IntersectionType.{IntersectionType}
 use Rattle.counting_tree.specs.declared.IntersectionType.TheVariants.{Disjoint, FullyCovered, Intersecting}
-use Rattle.counting_tree.specs.Frames.{Frame, frames_in, floats}
+use Rattle.counting_tree.specs.Frames.{floats}
+use Rattle.counting_tree.specs.Given.{geometry, frame_list, frame_of}
 use Rattle.counting_tree.specs.Grid.{side_at, centres}
 use Rattle.counting_tree.specs.Box.{sum_from}
-use Rattle.counting_tree.specs.Geometry.{Geometry, frame, N, box_at}
+use Rattle.counting_tree.specs.Geometry.{Geometry, N, box_at}
 use Rattle.counting_tree.specs.Paths as Paths
-use Rattle.counting_tree.specs.Paths.{on_box}
+use Rattle.counting_tree.specs.Ready.{ready_counts, square_fits}
 use Rattle.counting_tree.specs.Domain.{Counts}
-use Rattle.counting_tree.specs.Ready.{geometry_at, Ready, at_frames, square_fits}
 use Rattle.counting_tree.specs.Indexes.{box_level}
 use Rattle.counting_tree.proofs.Reach.{near_reaches}
 use Rattle.counting_tree.specs.Settled.{settled_by}
 use Rattle.counting_tree.specs.SettledLaws.{settled_disjoint, settled_covered}
-use Rattle.cells_grid.specs.Cells.{node, count}
+use Rattle.cells_grid.specs.Cells.{members, core, core_cell, node, count}
 use Rattle.cells_grid.specs.Lawful.{Lawful}
 use Rattle.cells_grid.specs.Ready.{ready_lawful}
 use Rattle.cells_grid.proofs.CellLaws.{in_member, count_path}
-use Rattle.cells_grid.specs.Arrangement.{cell_at, Cored}
-use Rattle.cells_grid.specs.Places.{end_in}
-use Rattle.cells_grid.proofs.ArrangementLaws.{arranged_below, words_count, cell_size, cell_end_le, cell_places}
+use Rattle.cells_grid.specs.Arrangement.{cell_at}
 use Rattle.tree_structure.specs.declared.Counted.{Counted}
-use Rattle.tree_structure.specs.Encode.{told_of}
-use Rattle.core_cells.specs.Forest.{core_among, tree_frames, is_core, Grown}
-use Rattle.core_cells.specs.ForestLaws.{frames_below, no_tree_node, is_core_cell, among_core}
-use Rattle.core_cells.specs.Nearest.{CanLook, beyond, least_until, out_of_reach}
-use Rattle.core_cells.specs.NearestLaws.{among_place, least_found, least_le, out_farther}
-use Rattle.core_cells.specs.RootBox.{root_box, root_unless}
+use Rattle.tree_structure.specs.Encode.{told_of, told_some}
+use Rattle.core_cells.specs.declared.cells.CoreCells.{CoreCells}
+use Rattle.core_cells.specs.Forest.{tree_frames}
+use Rattle.core_cells.specs.ForestLaws.{no_tree_node}
+use Rattle.core_cells.specs.Nearest.{beyond, least_until, out_of_reach}
+use Rattle.core_cells.specs.NearestLaws.{least_found, least_le, out_farther}
+use Rattle.core_cells.specs.RootBox.{root_box, frames_first, root_first}
 use Rattle.core_cells.specs.RootBoxLaws.{one_root, disjoint_count, covered_count, root_centre}
-use Rattle.core_cells.specs.Settling.{settled_by_least, settled_by_frames, settled_by_root, Tells}
-use Rattle.core_cells.specs.SettlingLaws.{no_path, none_in_reach}
-use Rattle.core_cells.proofs.Counting.{word_inside}
-use Rattle.core_cells.proofs.Rooted.{first_is, first_low}
-
--- what is told, where it is not left open, is the answer. (The third variant has neither the first key nor the second.)
-pub settled_is : {a b : Bool} (told : IntersectionType) → (told ≡ Intersecting → ⊥) → on_box told b ≡ b → a ≡ on_box told false → a ≡ b
-settled_is Disjoint k t e = e ∙ t
-settled_is FullyCovered k t e = e ∙ t
-settled_is Intersecting k t e = absurd (k refl)
-
--- where the frames do not come first, the box that is handed on is the root box
-pub not_first : {ps : List ℤ} {v : ValidParams} {n k : ℕ} {w : List ℕ} {q c : ℕ} {first : Bool} {root : Box}
-    → Ready ps v n × Grown (geometry_at v n ps) k w × (q < n) × (c < k) × (root ≡ root_unless first v n ps c) → first ≡ false
-    → Ready ps v n × Grown (geometry_at v n ps) k w × (q < n) × (c < k) × (root ≡ root_box v n ps c)
-unfolding root_unless
-not_first p f = (p.0, p.1, p.2, p.3, rw f at p.4)
-
--- what is asked with a root box, without it
-pub asked : {ps : List ℤ} {v : ValidParams} {n k : ℕ} {w : List ℕ} {q c : ℕ} {root : Box} → Ready ps v n × Grown (geometry_at v n ps) k w × (q < n) × (c < k) × (root ≡ root_box v n ps c)
-    → Ready ps v n × Grown (geometry_at v n ps) k w × (q < n) × (c < k)
-asked p = (p.0, p.1, p.2, p.3)
+use Rattle.core_cells.specs.Settling.{settled_by_least, settled_by_frames, settled_by_root, joined_over, settled_by_cells, Tells, Apart}
+use Rattle.core_cells.specs.SettlingLaws.{tree_low, no_path, none_in_reach, cells_far, far_apart}
+use Rattle.core_cells.proofs.Held.{first_low, core_frames, members_counts}
 
 -- a frame out of reach does not reach by its own path
-pub no_reach : {ps : List ℤ} {v : ValidParams} {n : ℕ} → Ready ps v n → {q x : ℕ} → q < n → x < n → Counts (frame v (frames_in n v.channels ps) q) → Counts (frame v (frames_in n v.channels ps) x)
-    → {d : ℕ} → d ≡ N v (frames_in n v.channels ps) q x → out_of_reach v.t v.s d ≡ true → false ≡ Paths.reaches ((geometry_at v n ps).box q) (geometry_at v n ps).levels 0 x
-no_reach {ps} {v} {n} r {q} {x} hq hx cq cx e o =
-    both_ways false (Paths.reaches ((geometry_at v n ps).box q) (geometry_at v n ps).levels 0 x) (λ t. absurd t) (λ t. absurd (no_path r hq hx cq cx (ap (out_of_reach v.t v.s) (sym e) ∙ o) t))
+pub no_reach : (f : Frames) {q x : ℕ} → q < f.n → x < f.n → {d : ℕ} → d ≡ N f.v (frame_list f) q x → out_of_reach f.v.t f.v.s d ≡ true → false ≡ Paths.reaches ((geometry f).box q) (geometry f).levels 0 x
+no_reach f {q} {x} hq hx e o =
+    both_ways false (Paths.reaches ((geometry f).box q) (geometry f).levels 0 x) (λ t. absurd t) (λ t. absurd (no_path f.ready hq hx (ready_counts f.ready f.counts q hq) (ready_counts f.ready f.counts x hx) (ap (out_of_reach f.v.t f.v.s) (sym e) ∙ o) t))
 
-module _ {ps : List ℤ} {v : ValidParams} {n k : ℕ} {w : List ℕ} {q c : ℕ} (p : Ready ps v n × Grown (geometry_at v n ps) k w × (q < n) × (c < k)) where
+module _ (s : CoreCells) {q c : ℕ} (hq : q < s.frames.n) (h : c < s.k) where
   abbrev g : Geometry
-  g = geometry_at v n ps
-
-  abbrev fs : List Frame
-  fs = frames_in n v.channels ps
-
-  e : g.frames ≡ n
-  e = at_frames v n ps
+  g = geometry s.frames
 
   L : Lawful g
-  L = ready_lawful p.0
+  L = ready_lawful s.frames.ready
 
-  C : Cored g k w
-  C = p.1.cored
-
-  pub slot : 5 * n + c < length w
-  slot = word_inside p.0 p.1 p.3
-
-  pub cells_fit : (c < k) × (k ≤ n) × (3 * n ≤ length w)
-  cells_fit = (p.3, words_count g L C.cells n e, omega (arith, slot))
+  counts : (x : ℕ) → x < s.frames.n → Counts (frame_of s.frames x)
+  counts = ready_counts s.frames.ready s.frames.counts
 
   -- no core frame, no count
-  pub treeless : (b : Bool) → b ≡ nonzero (get_or w (5 * n + c) 0) → not b ≡ true → false ≡ nonzero (count (geometry_at v n ps) q (cell_at (geometry_at v n ps) c))
-  unfolding count
-  treeless true z f = absurd (true_T f)
-  treeless false z f = sym (ap (λ (x : List ℕ). nonzero (length x)) (no_tree_node g c (sym (z ∙ is_core_cell p.1 e c p.3)) q))
+  module _ {b : Bool} (eb : b ≡ core_cell (geometry s.frames) (cell_at (geometry s.frames) c)) where
+    pub treeless : b ≡ false → false ≡ nonzero (count (geometry s.frames) q (cell_at (geometry s.frames) c))
+    unfolding count
+    treeless f = sym (ap (λ (x : List ℕ). nonzero (length x)) (no_tree_node g c (sym eb ∙ f) q))
 
-  -- what the words say of its core frames
-  core_is : {b : Bool} → b ≡ nonzero (get_or w (5 * n + c) 0) → is_core g c ≡ b
-  core_is z = sym (z ∙ is_core_cell p.1 e c p.3)
-
-  pub no_core : (b : Bool) → b ≡ nonzero (get_or w (5 * n + c) 0) → not b ≡ true → Disjoint ≡ settled_by_root v n ps q c
-  unfolding settled_by_root
-  no_core true z f = absurd (true_T f)
-  no_core false z f = rw (core_is z)
+    pub no_core : b ≡ false → Some false ≡ settled_by_root s.frames.v s.frames.n s.frames.points.now q c
+    unfolding settled_by_root
+    no_core f = rw (sym eb ∙ f)
 
   -- the tree's own count
-  pub told_count : {r : Counted} → r ≡ told_of (node (geometry_at v n ps) q (cell_at (geometry_at v n ps) c)) → not (eqb r.count 0) ≡ nonzero (count (geometry_at v n ps) q (cell_at (geometry_at v n ps) c))
+  pub told_count : {r : Option Counted} → r ≡ told_of (node (geometry s.frames) q (cell_at (geometry s.frames) c)) → is_some r ≡ nonzero (count (geometry s.frames) q (cell_at (geometry s.frames) c))
   unfolding count
-  told_count z = ap (λ (x : Counted). not (eqb x.count 0)) z ∙ nonzero_eqb (length (node g q (cell_at g c)))
+  told_count z = ap is_some z ∙ told_some (node g q (cell_at g c))
 
-  -- ---- its root box
-  -- the first frame x lies in the root box, of which `told` is what whole numbers tell
-  module _ (own : Counts (frame v (frames_in n v.channels ps) q)) {x : ℕ} (ex : x ≡ get_or w (n + c) 0) (head : Counts (frame v (frames_in n v.channels ps) x))
-      {root : Box} (er : root ≡ root_box v n ps c) {told : IntersectionType}
-      (et : told ≡ settled_by v (sum_from (float 0) (floats (frame v (frames_in n v.channels ps) q)) (take v.channels root.centre))) where
-    is_first : x ≡ cell_at g c
-    is_first = first_is p.0 p.1 p.3 ex
-
-    low : cell_at g c < n
-    low = omega (arith, is_first, first_low p.0 p.1 p.3 ex)
-
-    counts : Counts (frame v fs (cell_at g c))
-    counts = subst (λ (y : ℕ). Counts (frame v fs y)) is_first head
-
-    telling : {t : IntersectionType} → told ≡ t → settled_by v (sum_from (float 0) (floats (frame v fs q)) (centres (side_at v.channels v.tolerance 0) (frame v fs (cell_at g c)))) ≡ t
+  -- ---- its root box: `told` is what whole numbers tell of it
+  module _ {b : Bool} (eb : b ≡ core_cell (geometry s.frames) (cell_at (geometry s.frames) c)) (f : b ≡ true) {root : Box} (er : root ≡ root_box s.frames.v s.frames.n s.frames.points.now c) {told : Option Bool}
+      (et : told ≡ settled_by s.frames.v (sum_from (float 0) (floats (frame_of s.frames q)) (take s.frames.v.channels root.centre))) where
+    telling : {t : Option Bool} → told ≡ t → settled_by s.frames.v (sum_from (float 0) (floats (frame_of s.frames q)) (centres (side_at s.frames.v.channels s.frames.v.tolerance 0) (frame_of s.frames (cell_at g c)))) ≡ t
     telling z =
-        ap (λ (l : List Float). settled_by v (sum_from (float 0) (floats (frame v fs q)) l)) (sym (ap (λ (b : Box). take v.channels b.centre) er ∙ root_centre p.0 c low))
+        ap (λ (l : List Float). settled_by s.frames.v (sum_from (float 0) (floats (frame_of s.frames q)) l)) (sym (ap (λ (b : Box). take s.frames.v.channels b.centre) er ∙ root_centre s.frames.ready c (first_low s h)))
         ∙ sym et ∙ z
 
-    pub root_value : {b : Bool} → b ≡ nonzero (get_or w (5 * n + c) 0) → not b ≡ false → told ≡ settled_by_root v n ps q c
+    pub root_value : told ≡ settled_by_root s.frames.v s.frames.n s.frames.points.now q c
     unfolding settled_by_root
-    root_value {b} eb f = rw (core_is eb ∙ not-false b f, ← er) et
+    root_value = rw (sym eb ∙ f, ← er) et
 
-    box_apart : told ≡ Disjoint → false ≡ nonzero (count (geometry_at v n ps) q (cell_at (geometry_at v n ps) c))
-    box_apart z = sym (disjoint_count g L q (cell_at g c) (settled_disjoint p.0 q (cell_at g c) p.2 low own counts (telling z)))
-
-    box_inside : told ≡ FullyCovered → {b : Bool} → b ≡ nonzero (get_or w (5 * n + c) 0) → not b ≡ false → true ≡ nonzero (count (geometry_at v n ps) q (cell_at (geometry_at v n ps) c))
-    box_inside z {b} eb f =
-        sym (covered_count g L q (cell_at g c) (settled_covered p.0 q (cell_at g c) p.2 low own counts (telling z))
-        (true_T (sym (is_core_cell p.1 e c p.3) ∙ sym eb ∙ not-false b f)))
-
-    pub root_tells : {b : Bool} → b ≡ nonzero (get_or w (5 * n + c) 0) → not b ≡ false → Tells v n ps q c told
-    root_tells {b} eb f = go told refl
+    pub root_tells : Tells s.frames.v s.frames.n s.frames.points.now q c told
+    root_tells = go told refl
       where
-        go : (t : IntersectionType) → told ≡ t → Tells v n ps q c t
-        go Disjoint z = box_apart z
-        go FullyCovered z = box_inside z eb f
-        go Intersecting z = refl
+        go : (t : Option Bool) → told ≡ t → Tells s.frames.v s.frames.n s.frames.points.now q c t
+        go (Some false) z = sym (disjoint_count g L q (cell_at g c) (settled_disjoint s.frames.ready q (cell_at g c) hq (first_low s h) (counts q hq) (counts (cell_at g c) (first_low s h)) (telling z)))
+        go (Some true) z = sym (covered_count g L q (cell_at g c) (settled_covered s.frames.ready q (cell_at g c) hq (first_low s h) (counts q hq) (counts (cell_at g c) (first_low s h)) (telling z)) (true_T (sym eb ∙ f)))
+        go None z = tt
 
   -- ---- the test of its root box: `told` is what it says of the first frame x
-  module _ {x : ℕ} (ex : x ≡ get_or w (n + c) 0) {side : Float} (es : side ≡ side_at v.channels v.tolerance 0) {told : IntersectionType} (et : told ≡ box_at v (frames_in n v.channels ps) side q x) where
-    tested : {t : IntersectionType} → told ≡ t → g.box q 0 (cell_at g c) ≡ t
-    tested z = sym (ap (g.box q 0) (first_is p.0 p.1 p.3 ex)) ∙ sym (et ∙ box_level p.0 0 side es q x) ∙ z
+  pub tested : {x : ℕ} → x ≡ cell_at (geometry s.frames) c → {side : Float} → side ≡ side_at s.frames.v.channels s.frames.v.tolerance 0 → {told : IntersectionType} → told ≡ box_at s.frames.v (frame_list s.frames) side q x
+      → (geometry s.frames).box q 0 (cell_at (geometry s.frames) c) ≡ told
+  tested {x} ex {side} es et = sym (ap (g.box q 0) ex) ∙ sym (et ∙ box_level s.frames.ready 0 side es q x)
 
-    pub test_tells : {b : Bool} → b ≡ nonzero (get_or w (5 * n + c) 0) → not b ≡ false → Tells v n ps q c told
-    test_tells {b} eb f = go told refl
+  pub test_apart : (geometry s.frames).box q 0 (cell_at (geometry s.frames) c) ≡ Disjoint → false ≡ nonzero (count (geometry s.frames) q (cell_at (geometry s.frames) c))
+  test_apart z = sym (disjoint_count g L q (cell_at g c) z)
+
+  pub test_inside : (geometry s.frames).box q 0 (cell_at (geometry s.frames) c) ≡ FullyCovered → {b : Bool} → b ≡ core_cell (geometry s.frames) (cell_at (geometry s.frames) c) → b ≡ true
+      → true ≡ nonzero (count (geometry s.frames) q (cell_at (geometry s.frames) c))
+  test_inside z eb f = sym (covered_count g L q (cell_at g c) z (true_T (sym eb ∙ f)))
+
+  -- ---- its frames xs
+  module _ {xs : List ℕ} (ex : xs ≡ members (geometry s.frames) (cell_at (geometry s.frames) c)) where
+    pub box_open : (geometry s.frames).box q 0 (cell_at (geometry s.frames) c) ≡ Intersecting → (k : ℕ) → k < length xs → (geometry s.frames).box q 0 (get_or xs k 0) ≡ Intersecting
+    box_open z k l = one_root g L q (cell_at g c) Intersecting z (get_or xs k 0) (in_member g (cell_at g c) (get_or xs k 0) (subst (In (get_or xs k 0)) ex (at_in 0 xs k l))).1
+
+    pub by_paths : {b : Bool} → b ≡ any (Paths.reaches ((geometry s.frames).box q) (geometry s.frames).levels 0) (keep (core (geometry s.frames)) xs) → b ≡ nonzero (count (geometry s.frames) q (cell_at (geometry s.frames) c))
+    by_paths z = z ∙ ap (any (Paths.reaches (g.box q) g.levels 0)) (core_frames s h ex) ∙ sym (count_path g L q (cell_at g c))
+
+  module _ {least : ℕ} (el : least ≡ least_until (s.frames.v.t * s.frames.v.t) (N s.frames.v (frame_list s.frames) q) beyond (tree_frames (geometry s.frames) c)) where
+    abbrev near : ℕ
+    near = s.frames.v.t * s.frames.v.t
+
+    abbrev between : ℕ → ℕ
+    between = N s.frames.v (frame_list s.frames) q
+
+    abbrev xs : List ℕ
+    xs = tree_frames g c
+
+    -- what the two tests say
+    pub frames_value : (a b : Bool) → ltb least (s.frames.v.t * s.frames.v.t) ≡ a → out_of_reach s.frames.v.t s.frames.v.s least ≡ b
+        → cond a (Some true) (cond b (Some false) None) ≡ settled_by_frames s.frames.v s.frames.n s.frames.points.now q c
+    unfolding settled_by_frames settled_by_least
+    frames_value a b ea eb = rw (← el, ea, eb)
+
+    pub hit : least < s.frames.v.t * s.frames.v.t → true ≡ nonzero (count (geometry s.frames) q (cell_at (geometry s.frames) c))
+    hit l =
+        let z = least_found near between beyond xs (omega (arith, square_fits s.frames.ready)) (omega (arith, el)) in
+        let low = tree_low s.frames.ready c z.0 z.1 in
+        let t = near_reaches s.frames.ready q z.0 hq low (counts q hq) (counts z.0 low) z.2 in
+        sym (count_path g L q (cell_at g c) ∙ T_true (any (Paths.reaches (g.box q) g.levels 0) xs) (any_in (Paths.reaches (g.box q) g.levels 0) z.0 xs z.1 t))
+
+    pub out : s.frames.v.t * s.frames.v.t ≤ least → out_of_reach s.frames.v.t s.frames.v.s least ≡ true → false ≡ nonzero (count (geometry s.frames) q (cell_at (geometry s.frames) c))
+    out l o = none_in_reach s.frames.ready hq (counts q hq) c (λ x i. (counts x (tree_low s.frames.ready c x i), out_farther s.frames.v.t s.frames.v.s (low x i) o))
       where
-        go : (t : IntersectionType) → told ≡ t → Tells v n ps q c t
-        go Disjoint z = sym (disjoint_count g L q (cell_at g c) (tested z))
-        go FullyCovered z = sym (covered_count g L q (cell_at g c) (tested z) (true_T (core_is eb ∙ not-false b f)))
-        go Intersecting z = refl
+        low : (x : ℕ) → In x xs → least ≤ between x
+        low x i = omega (arith, el, (least_le near between beyond xs (omega (arith, el))).1 x i)
 
-    pub test_open : told ≡ Intersecting → {from end : ℕ} → from ≡ get_or w (2 * n + c) 0 → end ≡ end_in w n k c
-        → (y : ℕ) → In y (part w (3 * n + from) (end - from)) → (geometry_at v n ps).box q 0 y ≡ Intersecting
-    test_open z ef ee y i = one_root g L q (cell_at g c) Intersecting (tested z) y (in_member g (cell_at g c) y (subst (In y) (cell_places g L C.cells n e c p.3 ef ee) i)).1
+-- ---- whether the root box is asked first
+module _ (s : CoreCells) (c : ℕ) where
+  pub first_none : 0 < s.frames.v.s → {xs : List ℕ} → xs ≡ members (geometry s.frames) (cell_at (geometry s.frames) c) → length xs ≤ 2 → None ≡ root_first s.frames.v s.frames.n s.frames.points.now c
+  unfolding root_first frames_first
+  first_none l {xs} ex h = rw (lt-ltb 0 s.frames.v.s l, le-leb (length (members (geometry s.frames) (cell_at (geometry s.frames) c))) 2 (omega (arith, ap length ex)))
 
-  -- ---- its frames
-  module _ {from end : ℕ} (ef : from ≡ get_or w (2 * n + c) 0) (ee : end ≡ end_in w n k c) where
-    pub can_look : CanLook w n from end
-    can_look = record {
-      order = omega (arith, cell_size g L C.cells n e c p.3 ef ee);
-      places = omega (arith, cell_end_le g L C.cells n e c p.3 ef ee);
-      room = omega (arith, slot);
-      below = subst (λ m. Below m (part w (3 * m) m)) e (subst (Below g.frames) (sym C.cells.places) (arranged_below g L));
-    }
+  module _ {root : Box} (er : root ≡ root_box s.frames.v s.frames.n s.frames.points.now c) where
+    pub first_zero : s.frames.v.s ≤ 0 → Some root ≡ root_first s.frames.v s.frames.n s.frames.points.now c
+    unfolding root_first frames_first
+    first_zero h = rw (le-ltb 0 s.frames.v.s h, er)
 
-    -- the frames of the tree
-    among : core_among w n from end ≡ tree_frames g c
-    among = among_core L C e c p.3 ef ee
+    pub first_many : {xs : List ℕ} → xs ≡ members (geometry s.frames) (cell_at (geometry s.frames) c) → 2 < length xs → Some root ≡ root_first s.frames.v s.frames.n s.frames.points.now c
+    unfolding root_first frames_first
+    first_many {xs} ex h = rw (lt-leb (length (members (geometry s.frames) (cell_at (geometry s.frames) c))) 2 (omega (arith, ap length ex)), and-false (ltb 0 s.frames.v.s), er)
 
-    abbrev path : ℕ → Bool
-    path = Paths.reaches (g.box q) g.levels 0
+-- ---- two cells: what the core frames of the one, asked one after the other, tell of those of the other
+module _ (s : CoreCells) {c : ℕ} (h : c < s.k) (d : ℕ) {xs : List ℕ} (ex : xs ≡ members (geometry s.frames) (cell_at (geometry s.frames) c)) where
+  pub cells_value : {r : Option Bool} → r ≡ joined_over (λ q. settled_by_frames s.frames.v s.frames.n s.frames.points.now q d) (keep (core (geometry s.frames)) xs)
+      → r ≡ settled_by_cells s.frames.v s.frames.n s.frames.points.now c d
+  unfolding settled_by_cells
+  cells_value z = z ∙ ap (joined_over (λ q. settled_by_frames s.frames.v s.frames.n s.frames.points.now q d)) (core_frames s h ex)
 
-    pub by_paths : {b : Bool} → b ≡ any (Paths.reaches ((geometry_at v n ps).box q) (geometry_at v n ps).levels 0) (core_among w n from end)
-        → b ≡ nonzero (count (geometry_at v n ps) q (cell_at (geometry_at v n ps) c))
-    by_paths z = z ∙ ap (any path) among ∙ sym (count_path g L q (cell_at g c))
+  -- a core frame at a place of c that has a count
+  pub one_covered : (k : ℕ) → k < length xs → {b : Bool} → b ≡ core (geometry s.frames) (get_or xs k 0) → b ≡ true → true ≡ nonzero (count (geometry s.frames) (get_or xs k 0) (cell_at (geometry s.frames) d))
+      → (q : ℕ) × In q (tree_frames (geometry s.frames) c) × (nonzero (count (geometry s.frames) q (cell_at (geometry s.frames) d)) ≡ true)
+  one_covered k l eb f t =
+      let x = get_or xs k 0 in
+      (x, subst (In x) (core_frames s h ex) (keep_in (core (geometry s.frames)) x xs (at_in 0 xs k l) (true_T (sym eb ∙ f))), sym t)
 
-    frame_low : (x : ℕ) → In x (core_among w n from end) → x < n
-    frame_low x i = omega (arith, frames_below g c x (subst (In x) among i), e)
-
-    module _ (own : Counts (frame v (frames_in n v.channels ps) q))
-        (all : (x : ℕ) → In x (part w (3 * n + from) (end - from)) → Counts (frame v (frames_in n v.channels ps) x))
-        {least : ℕ} (el : least ≡ least_until (v.t * v.t) (N v (frames_in n v.channels ps) q) beyond (core_among w n from end)) where
-      -- what the two tests say
-      pub frames_value : (a b : Bool) → ltb least (v.t * v.t) ≡ a → out_of_reach v.t v.s least ≡ b → cond a FullyCovered (cond b Disjoint Intersecting) ≡ settled_by_frames v n ps q c
-      unfolding settled_by_frames settled_by_least
-      frames_value a b ea eb = rw (← among, ← el, ea, eb)
-
-      pub hit : least < v.t * v.t → true ≡ nonzero (count (geometry_at v n ps) q (cell_at (geometry_at v n ps) c))
-      hit l =
-          let z = least_found (v.t * v.t) (N v fs q) beyond (core_among w n from end) (omega (arith, square_fits p.0)) (omega (arith, el)) in
-          let t = near_reaches p.0 q z.0 p.2 (frame_low z.0 z.1) own (all z.0 (among_place w n from end z.0 z.1)) z.2 in
-          by_paths (sym (T_true (any path (core_among w n from end)) (any_in path z.0 (core_among w n from end) z.1 t)))
-
-      pub out : v.t * v.t ≤ least → out_of_reach v.t v.s least ≡ true → false ≡ nonzero (count (geometry_at v n ps) q (cell_at (geometry_at v n ps) c))
-      out l o = none_in_reach p.0 p.2 own c (λ x i. let j = subst (In x) (sym among) i in (all x (among_place w n from end x j), out_farther v.t v.s (low x j) o))
-        where
-          low : (x : ℕ) → In x (core_among w n from end) → least ≤ N v fs q x
-          low x i = omega (arith, el, (least_le (v.t * v.t) (N v fs q) beyond (core_among w n from end) (omega (arith, el))).1 x i)
+pub cells_apart : (s : CoreCells) (c d : ℕ) → Some false ≡ settled_by_cells s.frames.v s.frames.n s.frames.points.now c d → Apart s.frames.v s.frames.n s.frames.points.now c d
+cells_apart s c d e = far_apart s.frames.ready c d (members_counts s c) (members_counts s d) (cells_far s.frames.v s.frames.n s.frames.points.now c d (sym e))

@@ -8,3 +8,6 @@ pub mod Settling
 pub mod SettlingLaws
 pub mod Spans
 pub mod SpansLaws
+pub mod HasTrees
+pub mod Held
+pub mod AmongLaws

@@ -1,14 +1,5 @@
--- Whole numbers before the tree: the least sum of squared differences among the core frames at some places. Definitions only.
-use Rattle.std.specs.Prelude.{Bool, cond, List, [], ◌∷◌, ℕ, ◌+◌, ◌*◌, ◌^◌, ◌≤◌, leb, ltb, length}
-use Rattle.lists.specs.Lists.{Below}
-use Rattle.lists.specs.Words.{part}
-
--- what looking at the frames at the places from `from` up to `to` asks of the words
-pub record CanLook (w : List ℕ) (n from to : ℕ) : Type 0 where
-  pub order : from ≤ to
-  pub places : to ≤ n
-  pub room : 5 * n ≤ length w
-  pub below : Below n (part w (3 * n) n)
+-- Whole numbers before the tree: the least sum of squared differences among some frames. Definitions only.
+use Rattle.std.specs.Prelude.{Bool, cond, List, [], ◌∷◌, ℕ, ◌+◌, ◌*◌, ◌^◌, leb, ltb, min}
 
 -- more than any sum of squared differences
 abbrev pub beyond : ℕ
@@ -17,7 +8,7 @@ beyond = 2 ^ 35
 -- the first number below `enough` that f gives of an element; if there is none, the least of them and m
 unfoldable pub least_until : (enough : ℕ) → (ℕ → ℕ) → ℕ → List ℕ → ℕ
 least_until enough f m [] = m
-least_until enough f m (x ∷ xs) = let r = least_until enough f (cond (ltb (f x) m) (f x) m) xs in cond (ltb (f x) enough) (f x) r
+least_until enough f m (x ∷ xs) = let r = least_until enough f (min m (f x)) xs in cond (ltb (f x) enough) (f x) r
 
 -- "The far reach is N × (4 to the power s) < (t × ((2 to the power s) + 1)) squared + (4 to the power s)." N is not below it
 unfoldable pub out_of_reach : (t s N : ℕ) → Bool

@@ -1,37 +1,10 @@
--- Laws of the core frames among some places, of the least number found: below `enough` it is that of an element, else no element's is lower;
--- and of the far reach.
-use Rattle.std.specs.Prelude.{◌≡◌, Bool, true, cond, List, [], ◌∷◌, ℕ, ◌+◌, ◌-◌, ◌*◌, ◌^◌, ◌<◌, ◌≤◌, ltb, eqb, length, get_or}
+-- Laws of the least number found: below `enough` it is that of an element, else no element's is lower; and of the far reach.
+use Rattle.std.specs.Prelude.{◌≡◌, Bool, true, false, cond, List, [], ◌∷◌, ℕ, ◌+◌, ◌*◌, ◌^◌, ◌<◌, ◌≤◌, ltb, min}
 use Rattle.std.proofs.Math.Path.{refl}
-use Rattle.std.proofs.Common.{sym, inl, inr, arith, mul-le-mul_right, lt-ltb, le-ltb, leb-true, le-leb, ltb→lt, nltb→le}
+use Rattle.std.proofs.Common.{ap, ◌∙◌, ltb-true, ltb-false, inl, inr, arith, mul-le-mul_right, lt-ltb, le-ltb, leb-true, le-leb, ltb→lt, nltb→le}
 use Rattle.lists.specs.Lists.{In}
-use Rattle.lists.specs.Words.{part}
-use Rattle.lists.specs.ListLaws.{true_T, T_or_not, cond_true, cond_false, keep_in, in_keep}
-use Rattle.lists.proofs.PartLaws.{part_first}
-use Rattle.core_cells.specs.Forest.{core_among}
+use Rattle.lists.specs.ListLaws.{T_or_not}
 use Rattle.core_cells.specs.Nearest.{least_until, out_of_reach}
-
--- ---- core frames among places, by the first place
-pub among_none : (w : List ℕ) (n from : ℕ) → core_among w n from from ≡ []
-unfolding core_among
-among_none w n from =
-    let e : from - from ≡ 0 = omega arith in
-    rw e
-
-pub among_first : (w : List ℕ) (n from to : ℕ) → from < to → 3 * n + from < length w → (b : Bool) → b ≡ eqb (get_or w (4 * n + get_or w (3 * n + from) 0) 0) 1
-    → core_among w n from to ≡ cond b (get_or w (3 * n + from) 0 ∷ core_among w n (from + 1) to) (core_among w n (from + 1) to)
-unfolding core_among
-among_first w n from to h l b q =
-    let m : to - from ≡ to - (from + 1) + 1 = omega arith in
-    let a : 3 * n + from + 1 ≡ 3 * n + (from + 1) = omega arith in
-    rw (m, part_first w (3 * n + from) (to - (from + 1)) l, a, ← q)
-
-pub among_place : (w : List ℕ) (n from to x : ℕ) → In x (core_among w n from to) → In x (part w (3 * n + from) (to - from))
-unfolding core_among
-among_place w n from to x i = (in_keep (λ i. eqb (get_or w (4 * n + i) 0) 1) x (part w (3 * n + from) (to - from)) i).0
-
-pub among_in : (w : List ℕ) (n from to x : ℕ) → In x (part w (3 * n + from) (to - from)) → true ≡ eqb (get_or w (4 * n + x) 0) 1 → In x (core_among w n from to)
-unfolding core_among
-among_in w n from to x i q = keep_in (λ i. eqb (get_or w (4 * n + i) 0) 1) x (part w (3 * n + from) (to - from)) i (true_T (sym q))
 
 -- ---- the least number found
 module _ (enough : ℕ) (f : ℕ → ℕ) where
@@ -43,20 +16,17 @@ module _ (enough : ℕ) (f : ℕ → ℕ) where
   unfolding least_until
   least_stop m x xs h = rw (lt-ltb (f x) enough h)
 
-  pub least_next : (m x : ℕ) (xs : List ℕ) → enough ≤ f x → (b : Bool) → ltb (f x) m ≡ b → least_until enough f m (x ∷ xs) ≡ least_until enough f (cond b (f x) m) xs
+  pub least_next : (m x : ℕ) (xs : List ℕ) → enough ≤ f x → least_until enough f m (x ∷ xs) ≡ least_until enough f (min m (f x)) xs
   unfolding least_until
-  least_next m x xs h b e = rw (le-ltb (f x) enough h, e)
+  least_next m x xs h = rw (le-ltb (f x) enough h)
 
-  -- the lesser of f x and m
-  lesser : (x m : ℕ) → (cond (ltb (f x) m) (f x) m ≤ f x) × (cond (ltb (f x) m) (f x) m ≤ m) × (enough ≤ f x → enough ≤ m → enough ≤ cond (ltb (f x) m) (f x) m)
-  lesser x m = elim (T_or_not (ltb (f x) m)) [
-    | inl t ↦
-        let l : f x < m = ltb→lt (f x) m t in
-        rw (cond_true (ltb (f x) m) (f x) m t) (omega arith, omega arith, λ h k. h)
-    | inr n ↦
-        let l : m ≤ f x = nltb→le (f x) m n in
-        rw (cond_false (ltb (f x) m) (f x) m n) (l, omega arith, λ h k. k)
-  ]
+  -- the same by a test
+  pub least_next_by : (m x : ℕ) (xs : List ℕ) → enough ≤ f x → (b : Bool) → ltb (f x) m ≡ b → least_until enough f m (x ∷ xs) ≡ least_until enough f (cond b (f x) m) xs
+  least_next_by m x xs h b e = least_next m x xs h ∙ ap (λ (z : ℕ). least_until enough f z xs) (lesser b e)
+    where
+      lesser : (b : Bool) → ltb (f x) m ≡ b → min m (f x) ≡ cond b (f x) m
+      lesser true e = omega (arith, ltb-true (f x) m e)
+      lesser false e = omega (arith, ltb-false (f x) m e)
 
   pub least_found : (m : ℕ) (xs : List ℕ) → enough ≤ m → least_until enough f m xs < enough → (x : ℕ) × In x xs × (f x < enough)
   least_found m [] h l = absurd (omega (arith, least_none m))
@@ -64,7 +34,7 @@ module _ (enough : ℕ) (f : ℕ → ℕ) where
     | inl t ↦ (x, inl refl, ltb→lt (f x) enough t)
     | inr n ↦
         let k : enough ≤ f x = nltb→le (f x) enough n in
-        let z = least_found (cond (ltb (f x) m) (f x) m) xs ((lesser x m).2 k h) (rw (← least_next m x xs k (ltb (f x) m) refl) l) in
+        let z = least_found (min m (f x)) xs (omega arith) (rw (← least_next m x xs k) l) in
         (z.0, inr z.1, z.2)
   ]
 
@@ -73,12 +43,11 @@ module _ (enough : ℕ) (f : ℕ → ℕ) where
   least_le m (y ∷ xs) h = elim (T_or_not (ltb (f y) enough)) [
     | inl t ↦ absurd (omega (arith, ltb→lt (f y) enough t, least_stop m y xs (ltb→lt (f y) enough t)))
     | inr n ↦
-        let m₁ = cond (ltb (f y) m) (f y) m in
-        let e = least_next m y xs (nltb→le (f y) enough n) (ltb (f y) m) refl in
-        let z = least_le m₁ xs (omega arith) in (
-          omega (arith, z.0, (lesser y m).1),
+        let e = least_next m y xs (nltb→le (f y) enough n) in
+        let z = least_le (min m (f y)) xs (omega arith) in (
+          omega (arith, z.0),
           λ x i. elim i [
-            | inl p ↦ rw p (omega (arith, z.0, (lesser y m).0))
+            | inl p ↦ rw p (omega (arith, z.0))
             | inr j ↦ omega (arith, z.1 x j)
           ],
         )

@@ -1,19 +1,18 @@
 -- Laws of what whole numbers tell: where frames are out of reach none of them reaches by its own path, so the core frames of two cells that are out of reach
 -- of each other have no counts in the other cell's tree.
-use Rattle.std.specs.Prelude.{◌≡◌, refl, Bool, true, false, cond, List, [], ◌∷◌, ℕ, ◌+◌, ◌*◌, ◌^◌, ◌<◌, ◌≤◌, T, ltb, ℤ}
+use Rattle.std.specs.Prelude.{◌≡◌, refl, Bool, true, false, cond, List, [], ◌∷◌, ℕ, ◌+◌, ◌*◌, ◌^◌, ◌<◌, ◌≤◌, T, ltb, ℤ, Option, Some, None}
 use Rattle.std.proofs.Common.{sym, ap, ◌∙◌, inl, inr, arith}
 use borrow.Author.Tests.{ltb-false, leb-true}
 use Rattle.lists.specs.Lists.{In}
 use Rattle.lists.specs.ListLaws.{true_T, in_keep, any_none}
 use Rattle.hyperparams.specs.declared.ValidParams.{ValidParams}
-use Rattle.counting_tree.specs.declared.IntersectionType.{IntersectionType}
-use Rattle.counting_tree.specs.declared.IntersectionType.TheVariants.{Disjoint, FullyCovered, Intersecting}
 use Rattle.counting_tree.specs.Frames.{Frame, frames_in}
 use Rattle.counting_tree.specs.FramesIn.{squared_swap}
 use Rattle.counting_tree.specs.Geometry.{Geometry, frame, N, FarReach}
-use Rattle.counting_tree.specs.Paths.{on_box, reaches}
+use Rattle.counting_tree.specs.Paths.{reaches}
 use Rattle.counting_tree.specs.Domain.{Counts}
 use Rattle.counting_tree.specs.Ready.{geometry_at, Ready, at_frames}
+use Rattle.counting_tree.specs.SettledLaws.{is_told, is_yes}
 use Rattle.counting_tree.proofs.Reach.{reaches_far}
 use Rattle.cells_grid.specs.Cells.{core, members, core_members}
 use Rattle.cells_grid.specs.Ready.{ready_lawful}
@@ -26,52 +25,49 @@ use Rattle.core_cells.specs.NearestLaws.{least_le, out_farther}
 use Rattle.core_cells.specs.Settling.{settled_by_least, settled_by_frames, joined, joined_over, settled_by_cells, Tells, Apart}
 
 -- ---- the three answers differ
-pub apart_not_covered : {A : Type 0} → Disjoint ≡ FullyCovered → A
-apart_not_covered e = absurd (true_T (ap (λ (t : IntersectionType). on_box t false) e))
+pub no_not_yes : {A : Type 0} → ◌≡◌ {A = Option Bool} (Some false) (Some true) → A
+no_not_yes e = absurd (true_T (ap is_yes e))
 
-pub open_not_covered : {A : Type 0} → Intersecting ≡ FullyCovered → A
-open_not_covered e = absurd (true_T (ap (λ (t : IntersectionType). on_box t false) e))
-
-pub open_not_apart : {A : Type 0} → Intersecting ≡ Disjoint → A
-open_not_apart e = absurd (true_T (sym (ap (λ (t : IntersectionType). on_box t true) e)))
+pub nothing_not_told : {A : Type 0} {b : Bool} → ◌≡◌ {A = Option Bool} None (Some b) → A
+nothing_not_told e = absurd (true_T (ap is_told e))
 
 -- ---- answers as one
-joined_apart : (a b : IntersectionType) → joined a b ≡ Disjoint → (a ≡ Disjoint) × (b ≡ Disjoint)
-joined_apart Disjoint b e = (refl, e)
-joined_apart FullyCovered b e = apart_not_covered (sym e)
-joined_apart Intersecting Disjoint e = open_not_apart e
-joined_apart Intersecting FullyCovered e = apart_not_covered (sym e)
-joined_apart Intersecting Intersecting e = open_not_apart e
+joined_apart : (a b : Option Bool) → joined a b ≡ Some false → (a ≡ Some false) × (b ≡ Some false)
+joined_apart (Some false) b e = (refl, e)
+joined_apart (Some true) b e = no_not_yes (sym e)
+joined_apart None (Some false) e = nothing_not_told e
+joined_apart None (Some true) e = no_not_yes (sym e)
+joined_apart None None e = nothing_not_told e
 
-joined_each : (f : ℕ → IntersectionType) (xs : List ℕ) → joined_over f xs ≡ Disjoint → (x : ℕ) → In x xs → f x ≡ Disjoint
+joined_each : (f : ℕ → Option Bool) (xs : List ℕ) → joined_over f xs ≡ Some false → (x : ℕ) → In x xs → f x ≡ Some false
 joined_each f [] e x i = absurd i
 joined_each f (y ∷ xs) e x (inl q) = ap f q ∙ (joined_apart (f y) (joined_over f xs) e).0
 joined_each f (y ∷ xs) e x (inr j) = joined_each f xs (joined_apart (f y) (joined_over f xs) e).1 x j
 
 -- ---- all out of reach, by the least
-least_apart : (t s least : ℕ) → settled_by_least t s least ≡ Disjoint → (t * t ≤ least) × (out_of_reach t s least ≡ true)
+least_apart : (t s least : ℕ) → settled_by_least t s least ≡ Some false → (t * t ≤ least) × (out_of_reach t s least ≡ true)
 unfolding settled_by_least
 least_apart t s least e = go (ltb least (t * t)) (out_of_reach t s least) refl refl e
   where
-    go : (a b : Bool) → ltb least (t * t) ≡ a → out_of_reach t s least ≡ b → cond a FullyCovered (cond b Disjoint Intersecting) ≡ Disjoint → (t * t ≤ least) × (out_of_reach t s least ≡ true)
-    go true b ea eb z = apart_not_covered (sym z)
+    go : (a b : Bool) → ltb least (t * t) ≡ a → out_of_reach t s least ≡ b → ◌≡◌ {A = Option Bool} (cond a (Some true) (cond b (Some false) None)) (Some false) → (t * t ≤ least) × (out_of_reach t s least ≡ true)
+    go true b ea eb z = no_not_yes (sym z)
     go false true ea eb z = (ltb-false least (t * t) ea, eb)
-    go false false ea eb z = open_not_apart z
+    go false false ea eb z = nothing_not_told z
 
 module _ (v : ValidParams) (n : ℕ) (ps : List ℤ) where
   -- N of two frames
   abbrev between : ℕ → ℕ → ℕ
   between = N v (frames_in n v.channels ps)
 
-  -- where the frames tell Disjoint, each is out of reach
-  frames_far : (q c : ℕ) → settled_by_frames v n ps q c ≡ Disjoint → (x : ℕ) → In x (tree_frames (geometry_at v n ps) c) → out_of_reach v.t v.s (N v (frames_in n v.channels ps) q x) ≡ true
+  -- where the frames tell that it has none, each is out of reach
+  frames_far : (q c : ℕ) → settled_by_frames v n ps q c ≡ Some false → (x : ℕ) → In x (tree_frames (geometry_at v n ps) c) → out_of_reach v.t v.s (N v (frames_in n v.channels ps) q x) ≡ true
   unfolding settled_by_frames
   frames_far q c e x i =
       let xs = tree_frames (geometry_at v n ps) c in
       let z = least_apart v.t v.s (least_until (v.t * v.t) (between q) beyond xs) e in
       out_farther v.t v.s ((least_le (v.t * v.t) (between q) beyond xs z.0).1 x i) z.1
 
-  pub cells_far : (c d : ℕ) → settled_by_cells v n ps c d ≡ Disjoint
+  pub cells_far : (c d : ℕ) → settled_by_cells v n ps c d ≡ Some false
       → (q x : ℕ) → In q (tree_frames (geometry_at v n ps) c) → In x (tree_frames (geometry_at v n ps) d) → out_of_reach v.t v.s (N v (frames_in n v.channels ps) q x) ≡ true
   unfolding settled_by_cells
   cells_far c d e q x i j = frames_far q d (joined_each (λ q. settled_by_frames v n ps q d) (tree_frames (geometry_at v n ps) c) e q i) x j
@@ -103,7 +99,7 @@ module _ {ps : List ℤ} {v : ValidParams} {n : ℕ} (r : Ready ps v n) where
   -- all core frames of a cell
   pub none_in_reach : {q : ℕ} → q < n → Counts (frame v (frames_in n v.channels ps) q) → (c : ℕ)
       → ((x : ℕ) → In x (tree_frames (geometry_at v n ps) c) → Counts (frame v (frames_in n v.channels ps) x) × (out_of_reach v.t v.s (N v (frames_in n v.channels ps) q x) ≡ true))
-      → Tells v n ps q c Disjoint
+      → Tells v n ps q c (Some false)
   none_in_reach {q} h own c far =
       sym
       (count_path g (ready_lawful r) q (cell_at g c)

@@ -1,5 +1,5 @@
 -- The span of a cell: the lowest and the highest raised count of its frames in each channel; and how far two spans lie apart. Definitions only.
-use Rattle.std.specs.Prelude.{Bool, cond, ◌&&◌, List, [], ◌∷◌, map, ℕ, ◌-◌, ◌*◌, ◌<◌, ℤ, length, get_or, replicate}
+use Rattle.std.specs.Prelude.{Bool, cond, ◌&&◌, List, [], ◌∷◌, map, ℕ, ◌-◌, ◌*◌, ◌<◌, ℤ, length, get_or, replicate, min, max}
 use Rattle.std.proofs.Math.Dec.{ltb}
 use Rattle.lists.specs.Lists.{numbers, total}
 use Rattle.lists.specs.Words.{over, column}
@@ -17,21 +17,12 @@ use Rattle.core_cells.specs.Nearest.{out_of_reach}
 abbrev pub many : ℕ
 many = 64
 
--- the lower and the higher of two numbers
-unfoldable pub lower : ℕ → ℕ → ℕ
-lower a b = cond (ltb b a) b a
-
-unfoldable pub higher : ℕ → ℕ → ℕ
-higher a b = cond (ltb a b) b a
-
--- and of two rows of counts, in each channel
+-- the lower and the higher of two rows of counts, in each channel
 unfoldable pub lowest : List ℕ → List ℕ → List ℕ
-unfolding lower
-lowest a b = column (λ i. lower (get_or a i 0) (get_or b i 0)) 4
+lowest a b = column (λ i. min (get_or a i 0) (get_or b i 0)) 4
 
 unfoldable pub highest : List ℕ → List ℕ → List ℕ
-unfolding higher
-highest a b = column (λ i. higher (get_or a i 0) (get_or b i 0)) 4
+highest a b = column (λ i. max (get_or a i 0) (get_or b i 0)) 4
 
 -- s, taken by h with f of each element in turn
 abbrev pub through : (List ℕ → List ℕ → List ℕ) → (ℕ → List ℕ) → List ℕ → List ℕ → List ℕ

@@ -1,7 +1,7 @@
 -- Laws of spans: each frame that is taken lies within the span, so no frames of two spans are nearer than the spans are.
-use Rattle.std.specs.Prelude.{◌≡◌, refl, Bool, true, false, cond, List, [], ◌∷◌, map, ℕ, zero, suc, ◌+◌, ◌-◌, ◌*◌, ◌<◌, ◌≤◌, ltb, ℤ, length, get_or}
+use Rattle.std.specs.Prelude.{◌≡◌, refl, Bool, true, false, cond, List, [], ◌∷◌, map, ℕ, zero, suc, ◌+◌, ◌-◌, ◌*◌, ◌<◌, ◌≤◌, ltb, ℤ, length, get_or, min, max}
 use Rattle.std.proofs.Math.Path.{sym}
-use Rattle.std.proofs.Common.{subst, ◌∙◌, inl, inr, le_refl, le_trans, add-zero, mul-le-mul, ltb-true, ltb-false}
+use Rattle.std.proofs.Common.{subst, ◌∙◌, inl, inr, le_refl, le_trans, add-zero, mul-le-mul}
 use native.Mathlib.Omega.{arith}
 use Rattle.std.proofs.Math.ListN.{length-map}
 use Rattle.lists.specs.Lists.{from, total, In}
@@ -16,26 +16,9 @@ use Rattle.blocks.specs.BlockLaws.{raise_near, array_at}
 use Rattle.cells_grid.specs.Cells.{members}
 use Rattle.cells_grid.specs.Arrangement.{cell_at}
 use Rattle.core_cells.specs.declared.spans.Span.{Span}
-use Rattle.core_cells.specs.Spans.{lower, higher, lowest, highest, through, span_from, gap, square_gap, raised_at, cell_span}
+use Rattle.core_cells.specs.Spans.{lowest, highest, through, span_from, gap, square_gap, raised_at, cell_span}
 
--- ---- the lower and the higher of two
-lower_le : (a b : ℕ) → (lower a b ≤ a) × (lower a b ≤ b)
-unfolding lower
-lower_le a b = go (ltb b a) refl
-  where
-    go : (t : Bool) → ltb b a ≡ t → (cond t b a ≤ a) × (cond t b a ≤ b)
-    go true e = (omega (arith, ltb-true b a e), omega arith)
-    go false e = (omega arith, omega (arith, ltb-false b a e))
-
-higher_le : (a b : ℕ) → (a ≤ higher a b) × (b ≤ higher a b)
-unfolding higher
-higher_le a b = go (ltb a b) refl
-  where
-    go : (t : Bool) → ltb a b ≡ t → (a ≤ cond t b a) × (b ≤ cond t b a)
-    go true e = (omega (arith, ltb-true a b e), omega arith)
-    go false e = (omega arith, omega (arith, ltb-false a b e))
-
--- in each channel
+-- ---- in each channel
 abbrev AtMost : List ℕ → List ℕ → Type 0
 AtMost xs ys = (i : ℕ) → i < 4 → get_or xs i 0 ≤ get_or ys i 0
 
@@ -47,17 +30,17 @@ most_chain a b c k l i h = le_trans (k i h) (l i h)
 
 lowest_le : (a b : List ℕ) → AtMost (lowest a b) a × AtMost (lowest a b) b
 unfolding lowest
-lowest_le a b = (λ i h. rw (at i h) (lower_le (get_or a i 0) (get_or b i 0)).0, λ i h. rw (at i h) (lower_le (get_or a i 0) (get_or b i 0)).1)
+lowest_le a b = (λ i h. rw (at i h) (omega arith), λ i h. rw (at i h) (omega arith))
   where
-    at : (i : ℕ) → i < 4 → get_or (lowest a b) i 0 ≡ lower (get_or a i 0) (get_or b i 0)
-    at i h = at_numbers (λ i. lower (get_or a i 0) (get_or b i 0)) 0 4 i h
+    at : (i : ℕ) → i < 4 → get_or (lowest a b) i 0 ≡ min (get_or a i 0) (get_or b i 0)
+    at i h = at_numbers (λ i. min (get_or a i 0) (get_or b i 0)) 0 4 i h
 
 highest_le : (a b : List ℕ) → AtMost a (highest a b) × AtMost b (highest a b)
 unfolding highest
-highest_le a b = (λ i h. rw (at i h) (higher_le (get_or a i 0) (get_or b i 0)).0, λ i h. rw (at i h) (higher_le (get_or a i 0) (get_or b i 0)).1)
+highest_le a b = (λ i h. rw (at i h) (omega arith), λ i h. rw (at i h) (omega arith))
   where
-    at : (i : ℕ) → i < 4 → get_or (highest a b) i 0 ≡ higher (get_or a i 0) (get_or b i 0)
-    at i h = at_numbers (λ i. higher (get_or a i 0) (get_or b i 0)) 0 4 i h
+    at : (i : ℕ) → i < 4 → get_or (highest a b) i 0 ≡ max (get_or a i 0) (get_or b i 0)
+    at i h = at_numbers (λ i. max (get_or a i 0) (get_or b i 0)) 0 4 i h
 
 -- ---- what is taken stands in the order R to the first and to each
 module _ (h : List ℕ → List ℕ → List ℕ) (R : List ℕ → List ℕ → Type 0) (same : (a : List ℕ) → R a a) (chain : (a b c : List ℕ) → R a b → R b c → R a c)

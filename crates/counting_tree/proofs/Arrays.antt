@@ -1,4 +1,4 @@
--- Arrays against the definitions: one coordinate more of a sum, of a corner; four counts, and the centre of a box; the rows of the corners, and one row more of their scan.
+-- Arrays against the definitions: one coordinate more of a sum, of a corner; the rows of the corners, and one row more of their scan.
 use mathlib.Core.Path.{◌≡◌, refl, sym, ap, ap₂, ◌∙◌}
 use mathlib.Core.Bool.{Bool, cond}
 use mathlib.Core.List.{List, [], ◌∷◌, map, map-map, map-id}
@@ -7,27 +7,18 @@ use native.Mathlib.Nat.{pow-succ'}
 use native.Mathlib.Numerals.{add-one}
 use native.Mathlib.Omega.{arith}
 use lib.Dec.{eqb, lit≤}
-use lib.IntN.{ℤ, pos}
-use lib.Signed.{mag}
 use lib.Pow.{pow_mono}
-use lib.ListN.{length, get_or, take, drop, replicate, length-map, drop_of_length-le, get_or-eq_default}
+use lib.ListN.{length, get_or, take, drop, replicate, drop_of_length-le}
 use lib.Seq.{drop-cons, length-take-le, get_or-take}
-use lib.Ieee.{Float, nan, binary64, of_bits, add, sub, mul, lt}
-use mir.Syntax.{w16}
-use mir.Val.{to_z, of_z}
+use lib.Ieee.{Float, nan, binary64, add, sub, mul, lt}
 use Rattle.lists.specs.Lists.{from, numbers}
-use Rattle.lists.specs.ListLaws.{at_map, length_numbers}
+use Rattle.lists.specs.ListLaws.{length_numbers}
 use Rattle.lists.specs.Words.{column}
-use Rattle.lists.proofs.WordLaws.{four_over}
 use Rattle.lists.proofs.PartLaws.{part_same}
 use Rattle.hyperparams.specs.Params.{float}
-use Rattle.counting_tree.specs.Grid.{index, centre, indexes, centres}
 use Rattle.counting_tree.specs.Box.{sum_from, both, corners, farthest}
 use Rattle.counting_tree.specs.Farthest.{largest_from}
-use Rattle.counting_tree.specs.Arrays.{placed, box_of, corner_of, row_of, rows_of}
-use Rattle.counting_tree.specs.Indexes.{centres_length}
-use Rattle.counting_tree.proofs.Index.{zero_is}
-use Rattle.counting_tree.proofs.Counts.{read}
+use Rattle.counting_tree.specs.Arrays.{corner_of, row_of, rows_of}
 
 -- ---- the sum of squares from channel i on
 module _ (n : ℕ) (q p : List Float) (a : n ≤ length q) (b : n ≤ length p) where
@@ -157,35 +148,3 @@ module _ (n m : ℕ) (qs : List Float) (all : List (List Float)) (long : m ≤ l
   pub scan_done : (far : Float) (k : ℕ) → m ≤ k → far ≡ scan_rest far k
   unfolding largest_from
   scan_done far k h = let j : length (take m all) ≤ k = omega (arith, length-take-le m all long) in rw (drop_of_length-le (take m all) j)
-
--- ---- at most four counts as they stand in an array
-pub four_placed : (ys : List ℤ) (a b c d : ℤ) → length ys ≤ 4 → a ≡ get_or ys 0 (pos 0) → b ≡ get_or ys 1 (pos 0) → c ≡ get_or ys 2 (pos 0) → d ≡ get_or ys 3 (pos 0) → a ∷ b ∷ c ∷ d ∷ [] ≡ placed ys
-unfolding placed
-four_placed = four_over (pos 0)
-
--- the centre of the box of a frame in an array
-module _ (n : ℕ) (side : Float) (frame : List ℤ) (long : length frame ≡ 4) (few : n ≤ 4) where
-  abbrev zs : List ℤ
-  zs = take n frame
-
-  zs_length : length zs ≡ n
-  zs_length = length-take-le n frame (omega arith)
-
-  all_length : length (centres side zs) ≡ n
-  all_length = centres_length side zs ∙ zs_length
-
-  pub four_centres : (a b c d : Float) → a ≡ get_or (centres side (take n frame)) 0 (float 0) → b ≡ get_or (centres side (take n frame)) 1 (float 0) → c ≡ get_or (centres side (take n frame)) 2 (float 0) → d ≡ get_or (centres side (take n frame)) 3 (float 0)
-      → a ∷ b ∷ c ∷ d ∷ [] ≡ (box_of n side frame).centre
-  unfolding box_of
-  four_centres a b c d = four_over (float 0) (centres side zs) a b c d (omega (arith, all_length))
-
-  -- channel k is used
-  pub centre_here : (k : ℕ) (x : Float) → k < n → mag (get_or frame k (pos 0)) < 2 ^ 15 → x ≡ centre side (index side (to_z w16 (of_z w16 (get_or frame k (pos 0))))) → x ≡ get_or (centres side (take n frame)) k (float 0)
-  unfolding centres indexes
-  centre_here k x h g e =
-      e ∙ ap (λ (z : ℤ). centre side (index side z)) (read (get_or frame k (pos 0)) g ∙ sym (get_or-take n frame k (pos 0) h))
-      ∙ sym (at_map (centre side) (pos 0) (float 0) (map (index side) zs) k (omega (arith, length-map zs (index side), zs_length)) ∙ ap (centre side) (at_map (index side) (pos 0) (pos 0) zs k (omega (arith, zs_length))))
-
-  -- it is not
-  pub centre_past : (k : ℕ) → n ≤ k → of_bits binary64 0 ≡ get_or (centres side (take n frame)) k (float 0)
-  centre_past k h = sym zero_is ∙ sym (get_or-eq_default (centres side zs) (float 0) (omega (arith, all_length)))

@@ -3,15 +3,14 @@ use mathlib.Core.Path.{◌≡◌, refl, sym, ap, ap₂, subst, ◌∙◌}
 use mathlib.Core.Bool.{Bool, true, false, cond}
 use mathlib.Core.List.{List, [], ◌∷◌, map}
 use Prim.Native.Nat.{ℕ, zero, suc, ◌+◌, ◌-◌, ◌*◌, ◌^◌, ◌≤◌, ◌<◌}
-use native.Mathlib.Nat.{mul-le-mul, lt_of_lt_of_le, lt_of_le_of_lt}
+use native.Mathlib.Nat.{mul-le-mul, lt_of_le_of_lt}
 use native.Mathlib.Omega.{arith}
-use borrow.Author.Tests.{le-ltb, ltb-true, ltb-false}
-use lib.Dec.{T, ltb, lit<, lit≤}
-use lib.IntN.{ℤ, pos, negsuc, nat_abs, sub_ℕ, ◌+ℤ◌, ◌-ℤ◌, ◌*ℤ◌}
+use borrow.Author.Tests.{ltb-true, ltb-false}
+use lib.Dec.{T, ltb, lit<}
+use lib.IntN.{ℤ, pos, negsuc, nat_abs, sub_ℕ, ◌-ℤ◌, ◌*ℤ◌}
 use lib.Signed.{mag, non_neg}
-use lib.ListN.{length, get_or, take, drop, get_or-eq_default}
+use lib.ListN.{get_or, take, drop}
 use lib.Seq.{get_or-take, get_or-drop}
-use lib.Ieee.{Float, binary64, of_int}
 use mir.Syntax.{w16, w64}
 use mir.Val.{Val, SFits, to_z, of_z}
 use mir.Facts.{to_z-of_z, sfits_widen}
@@ -19,7 +18,6 @@ use denote.Array.{each}
 use denote.Shadow.{shadow}
 use borrow.Kind.Array.{e_s_int}
 use Rattle.lists.specs.Words.{part}
-use Rattle.lists.proofs.PartLaws.{part_length}
 use Rattle.counting_tree.specs.Frames.{apart}
 use Rattle.counting_tree.specs.Domain.{Count}
 
@@ -30,38 +28,6 @@ read c h = to_z-of_z {w = w16} (record { sfits = h })
 -- a count in 64 bits
 pub widened : (c : ℤ) → SFits w16 c → to_z w64 (of_z w64 (to_z w16 (of_z w16 c))) ≡ c
 widened c f = ap (λ (z : ℤ). to_z w64 (of_z w64 z)) (to_z-of_z {w = w16} f) ∙ to_z-of_z {w = w64} (sfits_widen tt f)
-
--- ---- c + 2 ^ 15
-abbrev raise : ℤ → ℕ
-raise (pos n) = n + 32768
-raise (negsuc n) = 32768 - suc n
-
-raise_is : (c : ℤ) → SFits w16 c → c +ℤ pos 32768 ≡ pos (raise c)
-raise_is (pos n) f = refl
-raise_is (negsuc n) f = rw (le-ltb 32768 (suc n) f.sfits)
-
-raise_small : (c : ℤ) → SFits w16 c → raise c < 65536
-raise_small (pos n) f = omega (arith, f.sfits)
-raise_small (negsuc n) f = omega (arith, f.sfits)
-
--- as the program adds it
-pub record Raised (c : ℤ) : Type 0 where
-  pub fits : SFits w64 (to_z w64 (of_z w64 (to_z w16 (of_z w16 c))) +ℤ pos 32768)
-  pub natural : T (non_neg (to_z w64 (of_z w64 (to_z w64 (of_z w64 (to_z w16 (of_z w16 c))) +ℤ pos 32768))))
-  pub value : pos (nat_abs (to_z w64 (of_z w64 (to_z w64 (of_z w64 (to_z w16 (of_z w16 c))) +ℤ pos 32768)))) ≡ c +ℤ pos 32768
-  pub small : nat_abs (to_z w64 (of_z w64 (to_z w64 (of_z w64 (to_z w16 (of_z w16 c))) +ℤ pos 32768))) < 65536
-
-pub raised : (c : ℤ) → SFits w16 c → Raised c
-raised c f =
-    let e : to_z w64 (of_z w64 (to_z w16 (of_z w16 c))) +ℤ pos 32768 ≡ pos (raise c) = ap (λ (z : ℤ). z +ℤ pos 32768) (widened c f) ∙ raise_is c f in
-    let fits : SFits w64 (pos (raise c)) = record { sfits = lt_of_lt_of_le (raise_small c f) (lit≤ tt) } in
-    let b : to_z w64 (of_z w64 (to_z w64 (of_z w64 (to_z w16 (of_z w16 c))) +ℤ pos 32768)) ≡ pos (raise c) = ap (λ (z : ℤ). to_z w64 (of_z w64 z)) e ∙ to_z-of_z fits in
-    record {
-      fits = subst (SFits w64) (sym e) fits;
-      natural = subst (λ (z : ℤ). T (non_neg z)) (sym b) tt;
-      value = ap (λ (z : ℤ). pos (nat_abs z)) b ∙ sym (raise_is c f);
-      small = subst (λ (z : ℤ). nat_abs z < 65536) (sym b) (raise_small c f);
-    }
 
 -- ---- |a - b|, squared
 difference : (a b : ℕ) → nat_abs (sub_ℕ a b) ≡ (a - b) + (b - a)
@@ -126,25 +92,6 @@ squared_of a b f g =
 -- ---- the counts of a frame, from their start in the points
 pub count_here : (ps : List ℤ) (start d k p : ℕ) → k < d → p ≡ start + k → get_or ps p (pos 0) ≡ get_or (part ps start d) k (pos 0)
 count_here ps start d k p h e = ap (λ (q : ℕ). get_or ps q (pos 0)) e ∙ sym (get_or-take d (drop start ps) k (pos 0) h ∙ get_or-drop start ps k (pos 0))
-
-pub count_read : (ps : List ℤ) (start d k p : ℕ) → k < d → p ≡ start + k → mag (get_or ps p (pos 0)) < 2 ^ 15 → to_z w16 (of_z w16 (get_or ps p (pos 0))) ≡ get_or (part ps start d) k (pos 0)
-count_read ps start d k p h e g = read (get_or ps p (pos 0)) g ∙ count_here ps start d k p h e
-
-pub count_past : (ps : List ℤ) (start d k : ℕ) → start + d ≤ length ps → d ≤ k → pos 0 ≡ get_or (part ps start d) k (pos 0)
-count_past ps start d k l h = sym (get_or-eq_default (part ps start d) (pos 0) (omega (arith, part_length ps start d l)))
-
--- ---- four counts as floats
-abbrev back : ℤ → Float
-back z = of_int binary64 (to_z w16 (of_z w16 z))
-
-pub four_floats : (l : List ℤ) → length l ≡ 4 → SFits w16 (get_or l 0 (pos 0)) → SFits w16 (get_or l 1 (pos 0)) → SFits w16 (get_or l 2 (pos 0)) → SFits w16 (get_or l 3 (pos 0))
-    → back (get_or l 0 (pos 0)) ∷ back (get_or l 1 (pos 0)) ∷ back (get_or l 2 (pos 0)) ∷ back (get_or l 3 (pos 0)) ∷ [] ≡ map (of_int binary64) l
-four_floats [] e f g h i = absurd (omega arith)
-four_floats (a ∷ []) e f g h i = absurd (omega arith)
-four_floats (a ∷ b ∷ []) e f g h i = absurd (omega arith)
-four_floats (a ∷ b ∷ c ∷ []) e f g h i = absurd (omega arith)
-four_floats (a ∷ b ∷ c ∷ d ∷ []) e f g h i = rw (to_z-of_z f, to_z-of_z g, to_z-of_z h, to_z-of_z i)
-four_floats (a ∷ b ∷ c ∷ d ∷ x ∷ l) e f g h i = absurd (omega arith)
 
 pub take_map : {A B : Type 0} (f : A → B) (n : ℕ) (l : List A) → take n (map f l) ≡ map f (take n l)
 take_map f zero l = refl

@@ -3,18 +3,15 @@ use mathlib.Core.Path.{◌≡◌, sym, ap, ap₂, ◌∙◌}
 use mathlib.Core.Bool.{Bool}
 use mathlib.Core.List.{List, map}
 use Prim.Native.Nat.{ℕ, ◌+◌, ◌*◌, ◌≤◌, ◌<◌}
-use native.Mathlib.Nat.{mul-le-mul, add-zero}
 use native.Mathlib.Omega.{arith}
 use lib.Dec.{leb}
 use lib.IntN.{ℤ}
 use lib.ListN.{length, take, replicate}
 use lib.Ieee.{Float, binary64, of_int}
-use mir.Syntax.{w64}
-use mir.Val.{Fits}
 use Rattle.lists.specs.Words.{part}
 use Rattle.lists.proofs.PartLaws.{part_same, part_length}
 use Rattle.hyperparams.specs.declared.ValidParams.{ValidParams}
-use Rattle.hyperparams.specs.Params.{float, max_frames}
+use Rattle.hyperparams.specs.Params.{float}
 use Rattle.counting_tree.specs.declared.Box.{Box}
 use Rattle.counting_tree.specs.declared.IntersectionType.{IntersectionType}
 use Rattle.counting_tree.specs.Frames.{Frame, frames_in, floats}
@@ -30,12 +27,6 @@ use Rattle.counting_tree.specs.Ready.{Ready, geometry_at, square_fits}
 use Rattle.counting_tree.specs.Indexes.{placed_first, indexes_length, centres_length, same_indexes}
 use Rattle.counting_tree.proofs.Counts.{take_map}
 
--- a place in the points, and its byte offset
-pub record Place (ps : List ℤ) (p : ℕ) : Type 0 where
-  pub fits : Fits w64 p
-  pub bytes : Fits w64 (p * 2)
-  pub inside : p < length ps
-
 module _ {ps : List ℤ} {v : ValidParams} {n : ℕ} (r : Ready ps v n) where
   abbrev d : ℕ
   d = v.channels
@@ -49,17 +40,6 @@ module _ {ps : List ℤ} {v : ValidParams} {n : ℕ} (r : Ready ps v n) where
 
   pub inside : (i : ℕ) → i < n → i * v.channels + v.channels ≤ length ps
   inside i h = frame_inside n d (length ps) i r.room h
-
-  -- count k of frame i stands at p
-  pub place : (i k p : ℕ) → i < n → k < v.channels → p ≡ i * v.channels + k → Place ps p
-  place i k p h l e =
-      let a = inside i h in
-      let b = frame_inside n d (n * d) i (omega arith) h in
-      let c : n * d ≤ max_frames * 4 = mul-le-mul r.few r.settings.scale.most in
-      record { fits = record { fits = omega arith }; bytes = record { fits = omega arith }; inside = omega arith }
-
-  pub first_place : (i : ℕ) → i < n → Place ps (i * v.channels)
-  first_place i h = place i 0 (i * d) h r.settings.scale.some (sym (add-zero (i * d)))
 
   pub product_fits : (v.t * v.t ≤ 4294836225) × (short * (v.t * v.t) ≤ 17179344900)
   product_fits = (square_fits r, omega (arith, square_fits r))

@@ -1,3 +1,4 @@
+pub mod Placed
 pub mod Index
 pub mod Arrays
 pub mod Answer

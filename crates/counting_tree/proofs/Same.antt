@@ -8,7 +8,7 @@ use native.Mathlib.Omega.{arith}
 use lib.Dec.{T, eqb, eqb→eq, eqb_refl}
 use lib.IntN.{ℤ, pos}
 use lib.Signed.{mag}
-use lib.ListN.{length, get_or, take, drop, drop_of_length-le, get_or-eq_default}
+use lib.ListN.{length, get_or, take, drop, drop_of_length-le}
 use lib.Seq.{drop-cons, get_or-take, length-take-le}
 use lib.Ieee.{Float}
 use mir.Syntax.{w16, w64}
@@ -60,12 +60,6 @@ module _ {ps : List ℤ} {v : ValidParams} {n : ℕ} (r : Ready ps v n) (side : 
 
   ys_length : length ys ≡ d
   ys_length = indexes_length side (frame v (frames_in n d ps) j) ∙ frame_length n d ps j r.room h
-
-  pub ys_few : length (indexes side (frame v (frames_in n v.channels ps) j)) ≤ 4
-  ys_few = let e = ys_length in let m = r.settings.scale.most in omega arith
-
-  pub ys_past : (k : ℕ) → v.channels ≤ k → pos 0 ≡ get_or (indexes side (frame v (frames_in n v.channels ps) j)) k (pos 0)
-  ys_past k b = let e = ys_length in sym (get_or-eq_default ys (pos 0) (omega arith))
 
   -- count k of the frame stands at p; x is its index
   module _ (k p : ℕ) (b : k < v.channels) (e : p ≡ j * v.channels + k) (g : mag (get_or ps p (pos 0)) < 2 ^ 15) (x : ℤ) (f : x ≡ index side (to_z w16 (of_z w16 (get_or ps p (pos 0))))) where

@@ -1,6 +1,7 @@
 -- What is settled by the outcomes of the two comparisons, and that their whole numbers fit.
 use mathlib.Core.Path.{◌≡◌, ap, ◌∙◌}
-use mathlib.Core.Bool.{Bool, cond}
+use mathlib.Core.Bool.{Bool, true, false, cond}
+use Rattle.std.specs.Prelude.{Some, None}
 use mathlib.Core.List.{List, map}
 use Prim.Native.Nat.{ℕ, ◌+◌, ◌*◌, ◌%◌, ◌^◌, ◌≤◌, ◌<◌}
 use native.Mathlib.Nat.{one-mul, le_trans, le_of_eq}
@@ -13,7 +14,6 @@ use lib.Ieee.{Float, binary64, add, mul, le, of_int}
 use Rattle.lists.specs.Words.{part}
 use Rattle.hyperparams.specs.declared.ValidParams.{ValidParams}
 use Rattle.hyperparams.specs.Params.{float}
-use Rattle.counting_tree.specs.declared.IntersectionType.TheVariants.{Disjoint, FullyCovered, Intersecting}
 use Rattle.counting_tree.specs.Frames.{frames_in, floats}
 use Rattle.counting_tree.specs.Box.{sum_from}
 use Rattle.counting_tree.specs.Geometry.{frame}
@@ -37,6 +37,6 @@ module _ {ps : List ℤ} {v : ValidParams} {n : ℕ} (r : Ready ps v n) where
 
     pub by_tests : (two : ℕ) → two ≡ 2 ^ v.s → (b c : Bool) → le (float (9 * (v.t * v.t) + 1)) (mul binary64 m (float 4)) ≡ b
         → le (mul binary64 (add binary64 m (float 1)) (float (4 * (two * two)))) (float (v.t * (two + 2) * (v.t * (two + 2)))) ≡ c
-        → cond b Disjoint (cond c FullyCovered Intersecting) ≡ settled_by v (sum_from (float 0) (floats (frame v (frames_in n v.channels ps) i)) cs)
+        → cond b (Some false) (cond c (Some true) None) ≡ settled_by v (sum_from (float 0) (floats (frame v (frames_in n v.channels ps) i)) cs)
     unfolding settled_by
     by_tests two f b c p q = rw (← p, ← q, f, sum_is)

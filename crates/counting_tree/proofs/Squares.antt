@@ -1,11 +1,10 @@
--- The sum of squared differences of two lent frames, one channel more of it; and their counts, which are read on the way.
+-- The sum of squared differences of two lent frames, one channel more of it.
 use mathlib.Core.Path.{◌≡◌, sym, ap, ap₂, subst, ◌∙◌}
 use mathlib.Core.List.{List}
 use Prim.Native.Nat.{ℕ, suc, ◌+◌, ◌*◌, ◌^◌, ◌≤◌, ◌<◌}
 use native.Mathlib.Nat.{zero-add, add_assoc}
 use native.Mathlib.Numerals.{add-one}
 use native.Mathlib.Omega.{arith}
-use native.Mathlib.Decide.{ℕ_discrete}
 use lib.IntN.{ℤ, pos}
 use lib.ListN.{length, get_or, drop, drop_of_length-le}
 use lib.Seq.{drop-cons}
@@ -15,7 +14,7 @@ use Rattle.hyperparams.specs.declared.ValidParams.{ValidParams}
 use Rattle.counting_tree.specs.Frames.{Frame, frames_in, apart, squared}
 use Rattle.counting_tree.specs.FramesIn.{frame_at, frame_length}
 use Rattle.counting_tree.specs.Geometry.{frame, N}
-use Rattle.counting_tree.specs.Domain.{Count, Counts}
+use Rattle.counting_tree.specs.Domain.{Count}
 use Rattle.counting_tree.specs.Ready.{Ready}
 use Rattle.counting_tree.proofs.Counts.{read, count_here}
 
@@ -23,26 +22,15 @@ use Rattle.counting_tree.proofs.Counts.{read, count_here}
 pub record Squares (xs ys : Frame) (k sum : ℕ) : Type 0 where
   pub value : sum + squared (drop k xs) (drop k ys) ≡ squared xs ys
   pub bound : sum ≤ k * 2 ^ 32
-  pub left : (m : ℕ) → m < k → Count (get_or xs m (pos 0))
-  pub right : (m : ℕ) → m < k → Count (get_or ys m (pos 0))
 
 squares_none : (xs ys : Frame) → Squares xs ys 0 0
-squares_none xs ys = record { value = zero-add (squared xs ys); bound = omega arith; left = λ m h. absurd (omega arith); right = λ m h. absurd (omega arith) }
+squares_none xs ys = record { value = zero-add (squared xs ys); bound = omega arith }
 
-pub one_more : (zs : Frame) (k : ℕ) → ((m : ℕ) → m < k → Count (get_or zs m (pos 0))) → Count (get_or zs k (pos 0)) → (m : ℕ) → m < k + 1 → Count (get_or zs m (pos 0))
-one_more zs k h c m l = go (ℕ_discrete m k)
-  where
-    go : Dec (m ≡ k) → Count (get_or zs m (pos 0))
-    go (yes e) = subst (λ (i : ℕ). Count (get_or zs i (pos 0))) (sym e) c
-    go (no e) = h m (omega arith)
-
-squares_step : {xs ys : Frame} {k sum : ℕ} (q : ℕ) → Squares xs ys k sum → k < length xs → k < length ys → Count (get_or xs k (pos 0)) → Count (get_or ys k (pos 0))
+squares_step : {xs ys : Frame} {k sum : ℕ} (q : ℕ) → Squares xs ys k sum → k < length xs → k < length ys
     → q ≡ apart (get_or xs k (pos 0)) (get_or ys k (pos 0)) * apart (get_or xs k (pos 0)) (get_or ys k (pos 0)) → q ≤ 2 ^ 32 → Squares xs ys (k + 1) (sum + q)
-squares_step {xs} {ys} {k} {sum} q s hx hy cx cy e b = record {
+squares_step {xs} {ys} {k} {sum} q s hx hy e b = record {
   value = ap (λ (m : ℕ). sum + q + squared (drop m xs) (drop m ys)) (add-one k) ∙ add_assoc sum q _ ∙ ap (λ (m : ℕ). sum + m) (sym split) ∙ s.value;
   bound = omega (arith, s.bound);
-  left = one_more xs k s.left cx;
-  right = one_more ys k s.right cy;
 }
   where
     split : squared (drop k xs) (drop k ys) ≡ q + squared (drop (suc k) xs) (drop (suc k) ys)
@@ -68,7 +56,7 @@ module _ {ps : List ℤ} {v : ValidParams} {n : ℕ} (r : Ready ps v n) (i j : �
     squares_more s =
         let x = here i a hi ea in
         let y = here j b hj eb in
-        squares_step q s (omega (arith, frame_length n d ps i r.room hi)) (omega (arith, frame_length n d ps j r.room hj)) (subst Count x ga) (subst Count y gb)
+        squares_step q s (omega (arith, frame_length n d ps i r.room hi)) (omega (arith, frame_length n d ps j r.room hj))
         (e ∙ ap₂ (λ (z w : ℤ). apart z w * apart z w) (read (get_or ps a (pos 0)) ga ∙ x) (read (get_or ps b (pos 0)) gb ∙ y)) l
 
   pub squares_first : (a b : ℕ) → a ≡ i * v.channels → b ≡ j * v.channels → (ga : Count (get_or ps a (pos 0))) (gb : Count (get_or ps b (pos 0))) (q : ℕ)
@@ -78,9 +66,9 @@ module _ {ps : List ℤ} {v : ValidParams} {n : ℕ} (r : Ready ps v n) (i j : �
 
   -- the sum of all channels
   pub squares_all : {k sum : ℕ} → Squares (frame v (frames_in n v.channels ps) i) (frame v (frames_in n v.channels ps) j) k sum → k ≤ 4 → v.channels ≤ k
-      → (sum ≡ N v (frames_in n v.channels ps) i j) × ((sum ≤ 2 ^ 34) × (Counts (frame v (frames_in n v.channels ps) i) × Counts (frame v (frames_in n v.channels ps) j)))
+      → (sum ≡ N v (frames_in n v.channels ps) i j) × (sum ≤ 2 ^ 34)
   squares_all {k} {sum} s f h =
       let lx = frame_length n d ps i r.room hi in
       let ly = frame_length n d ps j r.room hj in
       let e : length xs ≤ k = omega arith in
-      (omega (arith, s.value, ap (λ (z : Frame). squared z (drop k ys)) (drop_of_length-le xs e)), (omega (arith, s.bound), (λ m l. s.left m (omega arith), λ m l. s.right m (omega arith))))
+      (omega (arith, s.value, ap (λ (z : Frame). squared z (drop k ys)) (drop_of_length-le xs e)), omega (arith, s.bound))

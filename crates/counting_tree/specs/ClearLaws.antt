@@ -27,6 +27,7 @@ use Rattle.counting_tree.specs.Radius.{unit_large, Side, radius, radius_is}
 use Rattle.counting_tree.specs.InBox.{side_half, half_side}
 use Rattle.counting_tree.specs.Grid.{half, side_at, centres}
 use Rattle.counting_tree.specs.Geometry.{frame, box_at}
+use Rattle.counting_tree.specs.Settings.{extended}
 use Rattle.counting_tree.specs.Sides.{Scale, tolerance_low, tolerance_high, tolerance_rep, level_side, radius_high}
 use Rattle.counting_tree.specs.Tests.{Sizes, sizes, Extended, sub_le_test, sub_not_above, not_lt_sub, le_add}
 use Rattle.counting_tree.specs.Corners.{Around}
@@ -378,5 +379,5 @@ module _ {ps : List ℤ} {v : ValidParams} {n : ℕ} (r : Ready ps v n) (q x : �
     box_crossing =
         subst (λ (z : Float). T (clearly_crossing v.tolerance v.appx_tolerance (radius v.channels z) (half z) (sum_at z)) → box_at v (frames_in n v.channels ps) z q x ≡ Intersecting) (sym L.is)
         (λ f.
-        let c = crossing_clear scale L.level (low_level L) ts (centres_at y) (close L.level (low_level L)) long v.appx_tolerance r.settings.extended extended_long (around y (level_side scale L.level (low_level L)) paired) f in
+        let c = crossing_clear scale L.level (low_level L) ts (centres_at y) (close L.level (low_level L)) long v.appx_tolerance (extended r.settings) extended_long (around y (level_side scale L.level (low_level L)) paired) f in
         box_tests y ∙ says_crossing (of_tests y apart_test) (of_tests y inside_test) (of_tests y near_test) (of_tests y corner_test) c.0 c.1 c.2)

@@ -1,10 +1,9 @@
 -- Document 01, "Domain": what the theorems ask of settings and frames, and that every accepted run has it.
-use Rattle.std.specs.Prelude.{◌≡◌, List, [], ℕ, ◌+◌, ◌*◌, ◌/◌, ◌^◌, ◌≤◌, ◌<◌, ℤ, pos, length, get_or, drop}
+use Rattle.std.specs.Prelude.{◌≡◌, List, [], ℕ, ◌+◌, ◌*◌, ◌/◌, ◌^◌, ◌≤◌, ◌<◌, ℤ, pos, length, get_or, drop, Ok}
 use Rattle.std.proofs.Common.{sym, ap, ◌∙◌, subst, div-add-mod', arith, get_or-take, get_or-drop}
 use Rattle.std.specs.Int.Signed.{mag}
 use Rattle.hyperparams.specs.declared.Params.{Params}
 use Rattle.hyperparams.specs.declared.ValidParams.{ValidParams}
-use Rattle.hyperparams.specs.declared.Checked.TheVariants.{Valid}
 use Rattle.hyperparams.specs.Params.{checked_of}
 use Rattle.hyperparams.specs.Accepted.{accepted}
 use Rattle.counting_tree.specs.Frames.{Frame, frames_in, frames_of}
@@ -41,6 +40,6 @@ domain_in ps {v} n s h c = record {
     below i k = subst (λ (m : ℕ). i < m) (frames_length n v.channels ps) k
 
 -- every accepted run
-pub domain_of : (p : Params) (ps : List ℤ) (labels kinds work : ℕ) {v : ValidParams} → checked_of p (length ps) labels kinds work ≡ Valid v → Counts ps → Domain v (frames_of v.channels ps)
+pub domain_of : (p : Params) (ps : List ℤ) (labels kinds work : ℕ) {v : ValidParams} → checked_of p (length ps) labels kinds work ≡ Ok v → Counts ps → Domain v (frames_of v.channels ps)
 unfolding frames_of
 domain_of p ps labels kinds work {v} e c = domain_in ps (length ps / v.channels) (settings_in (accepted p (length ps) labels kinds work e)) (omega (arith, div-add-mod' (length ps) v.channels)) c

@@ -32,3 +32,4 @@ pub mod Clear
 pub mod ClearLaws
 pub mod NearBox
 pub mod NearBoxLaws
+pub mod Given

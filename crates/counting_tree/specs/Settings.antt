@@ -10,7 +10,8 @@ use Rattle.std.specs.Float.Ieee.Fits.{down_pos}
 use Rattle.lists.specs.ListLaws.{and_left, and_right}
 use Rattle.ring.proofs.Ring.{ringℕ, poly, done}
 use Rattle.ring.proofs.Order.{belowℕ, equalℕ, num, slackℕ, ◌⊞◌, ◌⊠◌, diffℕ, ◌⊕◌, ◌⊙◌}
-use Rattle.ieee754.specs.Value.{unit, unit_pos, mag, sign, Good, Is, of_value}
+use Rattle.std.proofs.Props.{props}
+use Rattle.ieee754.specs.Value.{unit, unit_pos, mag, sign, Good, Good_prop, Is, of_value}
 use Rattle.ieee754.specs.Ops.{add_pos}
 use Rattle.ieee754.specs.Exact.{Rep, whole_value, round_rep, mul_exact, div_exact, of_int_pos}
 use Rattle.hyperparams.specs.declared.Params.{Params}
@@ -26,8 +27,13 @@ pub record Settings (v : ValidParams) : Type 0 where
   pub scale : Scale v.channels v.tolerance v.t
   pub power : v.s ≤ 10
   -- the extended tolerance is t × (2 ^ s + 1) / 2 ^ s
-  pub extended : Extended v.appx_tolerance
+  pub good : Good v.appx_tolerance
+  pub sign_is : sign v.appx_tolerance ≡ false
+  pub high : mag v.appx_tolerance ≤ 2 ^ 17 * unit
   pub scaled : 2 ^ v.s * mag v.appx_tolerance ≡ v.t * (2 ^ v.s + 1) * unit
+
+pub Settings_prop : (v : ValidParams) → IsProp (Settings v)
+Settings_prop v = Prim.hlevel (props, Good_prop)
 
 -- ---- the tolerance
 whole_is : (x : Float) (t : ℕ) → HasValue x false t 1 → Is x false (t * unit)
@@ -116,6 +122,12 @@ one_plus x s h i =
     few : (a : ℕ) → a ≤ 1024 → a + 1 < 2 ^ 53
     few a l = omega arith
 
+digits_few : (t a : ℕ) → t ≤ 65535 → a ≤ 1024 → t * (a + 1) < 2 ^ 53
+digits_few t a h k = lt_of_le_of_lt (mul-le-mul h (go a k)) (lit< tt)
+  where
+    go : (a : ℕ) → a ≤ 1024 → a + 1 ≤ 1025
+    go a k = omega arith
+
 pub settings_of_lem : (p : Params) → T (good_tolerance p.tolerance) → slack_power p.slack ≤ 10 → 1 ≤ p.channels → p.channels ≤ 4 → Settings (valid_of p)
 unfolding slack_power appx_tolerance_of
 settings_of_lem p h q some most =
@@ -125,27 +137,18 @@ settings_of_lem p h q some most =
     let is = whole_is p.tolerance t w.value in
     let i = equal_is p.slack (slack_at s) (part s) (slack_found 11 0 p.slack (lt_of_le_of_lt q (lit< tt))) (slack_is s q) (pow_pos (1074 - s)) in
     let j = one_plus p.slack s q i in
-    let r : Rep (t * (2 ^ s + 1) * part s) = record { digits = t * (2 ^ s + 1); places = 1074 - s; few = digits t (2 ^ s) w.high (low_power s q); is = refl } in
+    let r : Rep (t * (2 ^ s + 1) * part s) = record { digits = t * (2 ^ s + 1); places = 1074 - s; few = digits_few t (2 ^ s) w.high (low_power s q); is = refl } in
     let b : t * (2 ^ s + 1) * part s ≤ 2 ^ 17 * unit = high t (2 ^ s) (part s) unit w.high (twice (2 ^ s) (part s) unit (unit_part s q) (pow_pos s)) in
     let x = mul_exact p.tolerance (add binary64 (float 1) p.slack) (t * (2 ^ s + 1) * part s) is.good j.good (product t (2 ^ s + 1) (part s) unit is.mag_is j.mag_is) r (le_trans b (mul-le-mul_right unit (lit≤ tt))) in
     record {
       scale = record { some = some; most = most; is = is; low = w.low; high = w.high };
       power = q;
-      extended = record {
-        good = x.good;
-        sign_is = x.sign_is ∙ ap (λ (z : Bool). unlike z (sign (add binary64 (float 1) p.slack))) is.sign_is ∙ ap (unlike false) j.sign_is;
-        rep = subst Rep (sym x.mag_is) r;
-        high = le_trans (le_of_eq x.mag_is) b;
-      };
+      good = x.good;
+      sign_is = x.sign_is ∙ ap (λ (z : Bool). unlike z (sign (add binary64 (float 1) p.slack))) is.sign_is ∙ ap (unlike false) j.sign_is;
+      high = le_trans (le_of_eq x.mag_is) b;
       scaled = ap (λ (n : ℕ). 2 ^ s * n) x.mag_is ∙ scaled t (2 ^ s) (part s) unit (unit_part s q);
     }
   where
-    digits : (t a : ℕ) → t ≤ 65535 → a ≤ 1024 → t * (a + 1) < 2 ^ 53
-    digits t a h k = lt_of_le_of_lt (mul-le-mul h (go a k)) (lit< tt)
-      where
-        go : (a : ℕ) → a ≤ 1024 → a + 1 ≤ 1025
-        go a k = omega arith
-
     high : (t a b u : ℕ) → t ≤ 65535 → (a + 1) * b ≤ 2 * u → t * (a + 1) * b ≤ 2 ^ 17 * u
     high t a b u h z = belowℕ (t ∷ a ∷ b ∷ u ∷ []) (num t ⊠ slackℕ z ⊞ num (2 * u) ⊠ slackℕ h ⊞ num (2 * u)) (search poly depth 30) done
 
@@ -154,6 +157,18 @@ settings_of_lem p h q some most =
 
     scaled : (t a b u : ℕ) → u ≡ a * b → a * (t * (a + 1) * b) ≡ t * (a + 1) * u
     scaled t a b u e = equalℕ (t ∷ a ∷ b ∷ u ∷ []) (pos (t * (a + 1)) ⊙ diffℕ (sym e)) (search poly depth 30) done
+
+-- the extended tolerance is a number that the format holds
+pub extended : {v : ValidParams} → Settings v → Extended v.appx_tolerance
+extended {v} s = record {
+  good = s.good;
+  sign_is = s.sign_is;
+  rep = record { digits = v.t * (2 ^ v.s + 1); places = 1074 - v.s; few = digits_few v.t (2 ^ v.s) s.scale.high (low_power v.s s.power); is = is (2 ^ v.s) (part v.s) v.t (mag v.appx_tolerance) unit (pow_pos v.s) (unit_part v.s s.power) s.scaled };
+  high = s.high;
+}
+  where
+    is : (a b t m u : ℕ) → 0 < a → u ≡ a * b → a * m ≡ t * (a + 1) * u → m ≡ t * (a + 1) * b
+    is a b t m u p e q = eq_of_mul-eq-mul_right a p m (t * (a + 1) * b) (equalℕ (a ∷ b ∷ t ∷ m ∷ u ∷ []) (diffℕ q ⊕ pos (t * (a + 1)) ⊙ diffℕ e) (search poly depth 30) done)
 
 -- every accepted run
 pub settings_in : {p : Params} {v : ValidParams} {points labels kinds work : ℕ} → Accepted p v points labels kinds work → Settings v

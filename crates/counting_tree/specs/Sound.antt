@@ -19,7 +19,7 @@ use Rattle.counting_tree.specs.Geometry.{same_int, same_ints, frame, N, side, sa
 use Rattle.counting_tree.specs.WholeFrames.{Pair, no_channel, channel, cell_frames}
 use Rattle.counting_tree.specs.WholeDistance.{within_frames}
 use Rattle.counting_tree.specs.Answers.{disjoint_sound, covered_sound, last_sound}
-use Rattle.counting_tree.specs.Settings.{Settings}
+use Rattle.counting_tree.specs.Settings.{extended, Settings}
 use Rattle.counting_tree.specs.Domain.{Count, Counts, Domain}
 use Rattle.counting_tree.specs.declared.IntersectionType.TheVariants.{Disjoint, FullyCovered, Intersecting}
 
@@ -121,20 +121,20 @@ module _ (v : ValidParams) (fs : List Frame) (D : Domain v fs) where
   pub disjoint : (q l x : ℕ) → q < length fs → x < length fs → l ≤ levels v.s → box v fs q l x ≡ Disjoint → Nearer v fs q x → ⊥
   unfolding box side
   disjoint q l x hq hx hl e =
-      disjoint_sound D.settings.scale l (deep l hl) (frame v fs q) (frame v fs x) (frames_pair q x hq hx) (D.channels_are q hq) (D.channels_are x hx) v.appx_tolerance D.settings.extended e
+      disjoint_sound D.settings.scale l (deep l hl) (frame v fs q) (frame v fs x) (frames_pair q x hq hx) (D.channels_are q hq) (D.channels_are x hx) v.appx_tolerance (extended D.settings) e
 
   -- a FullyCovered box has only frames within the far reach under it
   pub covered : (q l x : ℕ) → q < length fs → x < length fs → l ≤ levels v.s → box v fs q l x ≡ FullyCovered → FarReach v fs q x
   unfolding box side
   covered q l x hq hx hl e =
       in_reach (N v fs q x) (mag v.appx_tolerance) (2 ^ v.s) (v.t * (2 ^ v.s + 1)) unit (4 ^ v.s) (pow_pos v.s) (four_power v.s) D.settings.scaled
-      (covered_sound D.settings.scale l (deep l hl) (frame v fs q) (frame v fs x) (frames_pair q x hq hx) (D.channels_are q hq) (D.channels_are x hx) v.appx_tolerance D.settings.extended e)
+      (covered_sound D.settings.scale l (deep l hl) (frame v fs q) (frame v fs x) (frames_pair q x hq hx) (D.channels_are q hq) (D.channels_are x hx) v.appx_tolerance (extended D.settings) e)
 
   -- the last level is never Intersecting
   pub last : (q x : ℕ) → q < length fs → x < length fs → box v fs q (levels v.s) x ≡ Intersecting → ⊥
   unfolding box side
   last q x hq hx e =
-      last_sound D.settings.scale (levels v.s) (deep (levels v.s) (omega arith)) (frame v fs q) (frame v fs x) (frames_pair q x hq hx) (D.channels_are q hq) (D.channels_are x hx) v.appx_tolerance D.settings.extended
+      last_sound D.settings.scale (levels v.s) (deep (levels v.s) (omega arith)) (frame v fs q) (frame v fs x) (frames_pair q x hq hx) (D.channels_are q hq) (D.channels_are x hx) v.appx_tolerance (extended D.settings)
       (last_scaled v D.settings) e
 
   -- two frames of one cell never lie over t apart

@@ -8,6 +8,7 @@ ghost use Rattle.counting_tree.specs.Arrays.{box_of, row_of, rows_of};
 ghost use Rattle.counting_tree.specs.Radius.{Side};
 
 use super::grid::{cell_center, half_side};
+use super::points::map_counts;
 use crate::{Box, IntersectionType};
 
 // The centre of the box in which a frame lies, with zeros after it.
@@ -16,23 +17,7 @@ fn centre_of(frame: [i16; 4], side: f64, channels: usize) -> [f64; 4]
     requires channels { channels ≤ 4 }
     ensures { result ≡ (box_of channels side frame).centre }
 {
-    if channels < 1 {
-        return [0.0, 0.0, 0.0, 0.0];
-    }
-    let a = cell_center(side, frame[0]);
-    if channels < 2 {
-        return [a, 0.0, 0.0, 0.0];
-    }
-    let b = cell_center(side, frame[1]);
-    if channels < 3 {
-        return [a, b, 0.0, 0.0];
-    }
-    let c = cell_center(side, frame[2]);
-    if channels < 4 {
-        return [a, b, c, 0.0];
-    }
-    let d = cell_center(side, frame[3]);
-    [a, b, c, d]
+    map_counts(&frame[..channels], 0.0, |c| cell_center(side, c))
 }
 
 // The box in which a frame lies.

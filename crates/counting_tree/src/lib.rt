@@ -5,6 +5,9 @@ pub mod boxes;
 pub mod grid;
 pub mod paths;
 pub mod points;
+mod run;
+
+pub use run::{Frames, read_counts};
 
 // A box: its centre, of which the first coordinates up to the number of channels count, and its side.
 #[derive(Clone, Copy)]

@@ -3,8 +3,8 @@ ghost use Rattle.std.specs.Prelude.{◌≡◌, cond, map, ◌+◌, ◌*◌, ◌^
 ghost use Rattle.std.specs.Float.{binary64};
 ghost use Rattle.std.specs.Float.Ieee.{of_int};
 ghost use Rattle.lists.specs.Words.{part};
-ghost use Rattle.counting_tree.specs.Frames as Frames;
-ghost use Rattle.counting_tree.specs.Frames.{frames_in, apart};
+ghost use Rattle.counting_tree.specs.Frames as Lists;
+ghost use Rattle.counting_tree.specs.Frames.{apart};
 ghost use Rattle.counting_tree.specs.Box.{sum_from};
 ghost use Rattle.counting_tree.specs.Settled.{settled_by};
 ghost use Rattle.counting_tree.specs.Clear.{clearly_apart, clearly_between, clearly_crossing};
@@ -12,41 +12,32 @@ ghost use Rattle.counting_tree.specs.NearBox.{reach, close_to, near_box};
 ghost use Rattle.hyperparams.specs.Params.{float};
 ghost use Rattle.counting_tree.specs.Grid.{centre, indexes};
 ghost use Rattle.counting_tree.specs.Geometry.{frame, N, same_ints, box_at};
-ghost use Rattle.counting_tree.specs.Arrays.{placed};
+ghost use Rattle.counting_tree.specs.Arrays.{placed, Placed};
 ghost use Rattle.counting_tree.specs.Radius.{Side};
 ghost use Rattle.counting_tree.specs.Indexes.{LevelSide};
 ghost use Rattle.counting_tree.specs.Domain.{Counts};
-ghost use Rattle.counting_tree.specs.Ready.{Ready, geometry_at};
+ghost use Rattle.counting_tree.specs.Given.{geometry, frame_of, frame_list};
 
 use super::boxes::{box_of, determine_intersection, square_sum};
 use super::grid::{cell_index, half_side};
-use crate::{Box, IntersectionType};
-use hyperparams::ValidParams;
+use crate::{Box, Frames, IntersectionType};
 
 // "at most 4 × t × t": the factor of the lists.
 const SHORT: u64 = 4;
 
-// Reads every count, and says how many there are: each is then known to be a signed 16-bit number.
-pub fn read_counts(points: &[i16]) -> usize
-    ensures { (result ≡ length points.now) × Counts points.now }
+// What f gives of each count of a frame, with `rest` in the channels that are not used.
+pub fn map_counts<T: Copy, F: Fn(i16) -> T>(frame: &[i16], rest: T, f: F) -> [T; 4]
+    requires few { length frame.now ≤ 4 }
+    requires callable { F.IsAlwaysCallable f }
+    ensures { Placed (F.post f) frame.now rest result (length frame.now) }
 {
-    let mut i = 0;
-    while i < points.len() {
-        let count = points[i];
-        i += 1;
+    let mut row = [rest; 4];
+    for k in 0..4 {
+        if k < frame.len() {
+            row[k] = f(frame[k]);
+        }
     }
-    i
-}
-
-// Reads the counts of frame i: each is then known to be a signed 16-bit number.
-pub fn read_frame(points: &[i16], v: ValidParams, n: usize, i: usize)
-    requires { Ready points.now v n × (i < n) }
-    ensures { Counts (frame v (frames_in n v.channels points.now) i) }
-{
-    let start = i * v.channels;
-    for k in 0..v.channels {
-        let count = points[start + k];
-    }
+    row
 }
 
 // Frame i, with zeros in the channels that are not used.
@@ -55,35 +46,15 @@ pub fn frame_at(points: &[i16], channels: usize, i: usize) -> [i16; 4]
     requires inside { i * channels + channels ≤ length points.now }
     ensures { result ≡ placed (part points.now (i * channels) channels) }
 {
-    if channels < 1 {
-        return [0, 0, 0, 0];
-    }
     let start = i * channels;
-    let a = points[start];
-    if channels < 2 {
-        return [a, 0, 0, 0];
-    }
-    let b = points[start + 1];
-    if channels < 3 {
-        return [a, b, 0, 0];
-    }
-    let c = points[start + 2];
-    if channels < 4 {
-        return [a, b, c, 0];
-    }
-    [a, b, c, points[start + 3]]
+    map_counts(&points[start..start + channels], 0, |c| c)
 }
 
 // The counts as floats.
 fn floats(frame: [i16; 4]) -> [f64; 4]
     ensures { result ≡ map (of_int binary64) frame }
 {
-    [
-        frame[0] as f64,
-        frame[1] as f64,
-        frame[2] as f64,
-        frame[3] as f64,
-    ]
+    map_counts(&frame, 0.0, |c| c as f64)
 }
 
 // c + 2^15
@@ -103,77 +74,75 @@ fn square(a: i16, b: i16) -> u64
     (d * d) as u64
 }
 
-// "N the sum of squared differences" of frames i and j; their counts are then known to be signed 16-bit numbers.
-pub fn square_apart(points: &[i16], v: ValidParams, n: usize, i: usize, j: usize) -> u64
-    requires { Ready points.now v n × (i < n) × (j < n) }
-    ensures value { result ≡ N v (frames_in n v.channels points.now) i j }
-    ensures bound { result ≤ 2 ^ 34 }
-    ensures counts { let fs = frames_in n v.channels points.now in Counts (frame v fs i) × Counts (frame v fs j) }
-{
-    let a = i * v.channels;
-    let b = j * v.channels;
-    let one = square(points[a], points[b]);
-    if v.channels < 2 {
-        return one;
+impl Frames<'_> {
+    // "N the sum of squared differences" of frames i and j.
+    pub fn square_apart(&self, i: usize, j: usize) -> u64
+        requires { (i < self.now.n) × (j < self.now.n) }
+        ensures value { result ≡ N self.now.v (frame_list self.now) i j }
+        ensures bound { result ≤ 2 ^ 34 }
+        ensures counts { let fs = frame_list self.now in Counts (frame self.now.v fs i) × Counts (frame self.now.v fs j) }
+    {
+        let a = i * self.v.channels;
+        let b = j * self.v.channels;
+        let one = square(self.points[a], self.points[b]);
+        if self.v.channels < 2 {
+            return one;
+        }
+        let two = one + square(self.points[a + 1], self.points[b + 1]);
+        if self.v.channels < 3 {
+            return two;
+        }
+        let three = two + square(self.points[a + 2], self.points[b + 2]);
+        if self.v.channels < 4 {
+            return three;
+        }
+        three + square(self.points[a + 3], self.points[b + 3])
     }
-    let two = one + square(points[a + 1], points[b + 1]);
-    if v.channels < 3 {
-        return two;
-    }
-    let three = two + square(points[a + 2], points[b + 2]);
-    if v.channels < 4 {
-        return three;
-    }
-    three + square(points[a + 3], points[b + 3])
-}
 
-// The indexes of frame i at a side, with zeros in the channels that are not used.
-pub fn indexes_at(points: &[i16], v: ValidParams, n: usize, side: f64, i: usize) -> [i64; 4]
-    requires { Ready points.now v n × (i < n) × Side side }
-    ensures { result ≡ placed (indexes side (frame v (frames_in n v.channels points.now) i)) }
-{
-    let start = i * v.channels;
-    let a = cell_index(side, points[start]);
-    if v.channels < 2 {
-        return [a, 0, 0, 0];
+    // Frame i.
+    pub fn frame(&self, i: usize) -> &[i16]
+        requires { i < self.now.n }
+        ensures value { result.now ≡ frame_of self.now i }
+        ensures few { length result.now ≤ 4 }
+    {
+        let start = i * self.v.channels;
+        &self.points[start..start + self.v.channels]
     }
-    let b = cell_index(side, points[start + 1]);
-    if v.channels < 3 {
-        return [a, b, 0, 0];
-    }
-    let c = cell_index(side, points[start + 2]);
-    if v.channels < 4 {
-        return [a, b, c, 0];
-    }
-    let d = cell_index(side, points[start + 3]);
-    [a, b, c, d]
-}
 
-// Whether frame j has the indexes `at` at a side: the first channel that differs settles it.
-fn has_indexes(points: &[i16], v: ValidParams, n: usize, side: f64, at: [i64; 4], j: usize) -> bool
-    requires { Ready points.now v n × (j < n) × Side side }
-    ensures { result ≡ same_ints (take v.channels at) (indexes side (frame v (frames_in n v.channels points.now) j)) }
-{
-    let start = j * v.channels;
-    if cell_index(side, points[start]) != at[0] {
-        return false;
+    // The indexes of frame i at a side, with zeros in the channels that are not used.
+    pub fn indexes_at(&self, side: f64, i: usize) -> [i64; 4]
+        requires { (i < self.now.n) × Side side }
+        ensures { result ≡ placed (indexes side (frame_of self.now i)) }
+    {
+        map_counts(self.frame(i), 0, |c| cell_index(side, c))
     }
-    if v.channels < 2 {
-        return true;
+
+    // Whether frame j has the indexes `at` at a side: the first channel that differs settles it.
+    fn has_indexes(&self, side: f64, at: [i64; 4], j: usize) -> bool
+        requires { (j < self.now.n) × Side side }
+        ensures { result ≡ same_ints (take self.now.v.channels at) (indexes side (frame_of self.now j)) }
+    {
+        let start = j * self.v.channels;
+        if cell_index(side, self.points[start]) != at[0] {
+            return false;
+        }
+        if self.v.channels < 2 {
+            return true;
+        }
+        if cell_index(side, self.points[start + 1]) != at[1] {
+            return false;
+        }
+        if self.v.channels < 3 {
+            return true;
+        }
+        if cell_index(side, self.points[start + 2]) != at[2] {
+            return false;
+        }
+        if self.v.channels < 4 {
+            return true;
+        }
+        cell_index(side, self.points[start + 3]) == at[3]
     }
-    if cell_index(side, points[start + 1]) != at[1] {
-        return false;
-    }
-    if v.channels < 3 {
-        return true;
-    }
-    if cell_index(side, points[start + 2]) != at[2] {
-        return false;
-    }
-    if v.channels < 4 {
-        return true;
-    }
-    cell_index(side, points[start + 3]) == at[3]
 }
 
 // 1 where a count lies more than `reach` from the centre, else 0.
@@ -191,63 +160,57 @@ fn off(x: i16, centre: f64, reach: f64) -> u64
     0
 }
 
-// Whether frame j lies at most half a side and 1 from the centre of `place` in each channel; its counts are then known to be signed 16-bit numbers. The sum is tested once: a branch for each channel could not be predicted.
-fn near_box(points: &[i16], v: ValidParams, n: usize, place: Box, j: usize) -> bool
-    requires { Ready points.now v n × (j < n) }
-    ensures value { result ≡ near_box (reach place.side) (take v.channels place.centre) (frame v (frames_in n v.channels points.now) j) }
-    ensures counts { Counts (frame v (frames_in n v.channels points.now) j) }
-{
-    let start = j * v.channels;
-    let reach = half_side(place.side) + 1.0;
-    let centre = place.centre;
-    let one = off(points[start], centre[0], reach);
-    if v.channels < 2 {
-        return one == 0;
+impl Frames<'_> {
+    // Whether frame j lies at most half a side and 1 from the centre of `place` in each channel. The sum is tested once: a branch for each channel could not be predicted.
+    fn near_box(&self, place: Box, j: usize) -> bool
+        requires { j < self.now.n }
+        ensures { result ≡ near_box (reach place.side) (take self.now.v.channels place.centre) (frame_of self.now j) }
+    {
+        let start = j * self.v.channels;
+        let reach = half_side(place.side) + 1.0;
+        let centre = place.centre;
+        let one = off(self.points[start], centre[0], reach);
+        if self.v.channels < 2 {
+            return one == 0;
+        }
+        let two = one + off(self.points[start + 1], centre[1], reach);
+        if self.v.channels < 3 {
+            return two == 0;
+        }
+        let three = two + off(self.points[start + 2], centre[2], reach);
+        if self.v.channels < 4 {
+            return three == 0;
+        }
+        three + off(self.points[start + 3], centre[3], reach) == 0
     }
-    let two = one + off(points[start + 1], centre[1], reach);
-    if v.channels < 3 {
-        return two == 0;
-    }
-    let three = two + off(points[start + 2], centre[2], reach);
-    if v.channels < 4 {
-        return three == 0;
-    }
-    three + off(points[start + 3], centre[3], reach) == 0
-}
 
-// Whether frame j has the indexes `at` at the side of `place`, which is their box: a frame that is not near the box has not, and no index has to be worked out.
-pub fn shares_box(
-    points: &[i16],
-    v: ValidParams,
-    n: usize,
-    at: [i64; 4],
-    place: Box,
-    j: usize,
-) -> bool
-    requires ready { Ready points.now v n × (j < n) × Side place.side }
-    requires centre_value { take v.channels place.centre ≡ map (centre place.side) (take v.channels at) }
-    ensures { result ≡ same_ints (take v.channels at) (indexes place.side (frame v (frames_in n v.channels points.now) j)) }
-{
-    if !near_box(points, v, n, place, j) {
-        return false;
+    // Whether frame j has the indexes `at` at the side of `place`, which is their box: a frame that is not near the box has not, and no index has to be worked out.
+    pub fn shares_box(&self, at: [i64; 4], place: Box, j: usize) -> bool
+        requires ready { (j < self.now.n) × Side place.side }
+        requires centre_value { take self.now.v.channels place.centre ≡ map (centre place.side) (take self.now.v.channels at) }
+        ensures { result ≡ same_ints (take self.now.v.channels at) (indexes place.side (frame_of self.now j)) }
+    {
+        if !self.near_box(place, j) {
+            return false;
+        }
+        self.has_indexes(place.side, at, j)
     }
-    has_indexes(points, v, n, place.side, at, j)
-}
 
-// Whether the cells with the first frames c and d list each other.
-pub fn near_cells(points: &[i16], v: ValidParams, n: usize, c: usize, d: usize) -> bool
-    requires { Ready points.now v n × (c < n) × (d < n) }
-    ensures { result ≡ (geometry_at v n points.now).near c d }
-{
-    square_apart(points, v, n, c, d) <= SHORT * (v.t * v.t)
-}
+    // Whether the cells with the first frames c and d list each other.
+    pub fn near_cells(&self, c: usize, d: usize) -> bool
+        requires { (c < self.now.n) × (d < self.now.n) }
+        ensures { result ≡ (geometry self.now).near c d }
+    {
+        self.square_apart(c, d) <= SHORT * (self.v.t * self.v.t)
+    }
 
-// Whether frames i and j lie at most the tolerance apart: between frames "distance ≤ t" is "sum of squares ≤ t × t".
-pub fn within(points: &[i16], v: ValidParams, n: usize, i: usize, j: usize) -> bool
-    requires { Ready points.now v n × (i < n) × (j < n) }
-    ensures { result ≡ (geometry_at v n points.now).within i j }
-{
-    square_apart(points, v, n, i, j) <= v.t * v.t
+    // Whether frames i and j lie at most the tolerance apart: between frames "distance ≤ t" is "sum of squares ≤ t × t".
+    pub fn within(&self, i: usize, j: usize) -> bool
+        requires { (i < self.now.n) × (j < self.now.n) }
+        ensures { result ≡ (geometry self.now).within i j }
+    {
+        self.square_apart(i, j) <= self.v.t * self.v.t
+    }
 }
 
 // Whether the sum of squares to the centre of a box is over (t + h)² by 1, with h half the diagonal: the distance less h is then over t, and no root is needed to tell.
@@ -274,52 +237,59 @@ fn clearly_crossing(sum: f64, h: f64, e: f64, t: f64, appx: f64) -> bool
     clearly_between(sum, e, h, t, appx) || clearly_between(sum, h, e, t, appx)
 }
 
-// How the box of a level's side in which frame x lies stands to frame q. The root is taken, and corners are looked at, only where the sum of squares tells nothing.
-pub fn classify(
-    points: &[i16],
-    v: ValidParams,
-    n: usize,
-    q: usize,
-    side: f64,
-    x: usize,
-) -> IntersectionType
-    requires { Ready points.now v n × LevelSide v side × (q < n) × (x < n) }
-    ensures { result ≡ box_at v (frames_in n v.channels points.now) side q x }
-{
-    let a = frame_at(points, v.channels, q);
-    let b = frame_at(points, v.channels, x);
-    let place = box_of(b, side, v.channels);
-    let centre = place.centre;
-    let from = floats(a);
-    let sum = square_sum(from, centre, v.channels);
-    let h = half_side(side * ieee754::root_of_small(v.channels));
-    if clearly_apart(sum, h, v.tolerance) {
-        return IntersectionType::Disjoint;
+impl Frames<'_> {
+    // How the box of a level's side in which frame x lies stands to frame q. The root is taken, and corners are looked at, only where the sum of squares tells nothing.
+    pub fn classify(&self, q: usize, side: f64, x: usize) -> IntersectionType
+        requires { let f = self.now in LevelSide f.v side × (q < f.n) × (x < f.n) }
+        ensures { result ≡ box_at self.now.v (frame_list self.now) side q x }
+    {
+        let a = frame_at(self.points, self.v.channels, q);
+        let b = frame_at(self.points, self.v.channels, x);
+        let place = box_of(b, side, self.v.channels);
+        let centre = place.centre;
+        let from = floats(a);
+        let sum = square_sum(from, centre, self.v.channels);
+        let h = half_side(side * ieee754::root_of_small(self.v.channels));
+        if clearly_apart(sum, h, self.v.tolerance) {
+            return IntersectionType::Disjoint;
+        }
+        if clearly_crossing(
+            sum,
+            h,
+            half_side(side),
+            self.v.tolerance,
+            self.v.appx_tolerance,
+        ) {
+            return IntersectionType::Intersecting;
+        }
+        determine_intersection(
+            place,
+            from,
+            self.v.channels,
+            self.v.tolerance,
+            self.v.appx_tolerance,
+        )
     }
-    if clearly_crossing(sum, h, half_side(side), v.tolerance, v.appx_tolerance) {
-        return IntersectionType::Intersecting;
-    }
-    determine_intersection(place, from, v.channels, v.tolerance, v.appx_tolerance)
-}
 
-// What whole numbers tell of the root box `place` against frame q, with no root: Disjoint or FullyCovered where they settle it, else Intersecting, which says nothing.
-pub fn settled(points: &[i16], v: ValidParams, n: usize, q: usize, place: Box) -> IntersectionType
-    requires { Ready points.now v n × (q < n) }
-    ensures { result ≡ settled_by v (sum_from (float 0) (Frames.floats (frame v (frames_in n v.channels points.now) q)) (take v.channels place.centre)) }
-{
-    let a = frame_at(points, v.channels, q);
-    let centre = place.centre;
-    let sum = square_sum(floats(a), centre, v.channels);
-    // the distance less half the diagonal, t / 2, is over t
-    let far = 9 * (v.t * v.t) + 1;
-    if sum * 4.0 >= far as f64 {
-        return IntersectionType::Disjoint;
+    // Whether the root box `place` is FullyCovered by the ball of frame q, or else Disjoint from it, as far as whole numbers tell with no root.
+    pub fn settled(&self, q: usize, place: Box) -> Option<bool>
+        requires { q < self.now.n }
+        ensures { result ≡ settled_by self.now.v (sum_from (float 0) (Lists.floats (frame_of self.now q)) (take self.now.v.channels place.centre)) }
+    {
+        let a = frame_at(self.points, self.v.channels, q);
+        let centre = place.centre;
+        let sum = square_sum(floats(a), centre, self.v.channels);
+        // the distance less half the diagonal, t / 2, is over t
+        let far = 9 * (self.v.t * self.v.t) + 1;
+        if sum * 4.0 >= far as f64 {
+            return Some(false);
+        }
+        // with half the diagonal it is at most the extended tolerance
+        let two = 1u64 << self.v.s;
+        let reach = self.v.t * (two + 2);
+        if (sum + 1.0) * ((4 * (two * two)) as f64) <= (reach * reach) as f64 {
+            return Some(true);
+        }
+        None
     }
-    // with half the diagonal it is at most the extended tolerance
-    let two = 1u64 << v.s;
-    let reach = v.t * (two + 2);
-    if (sum + 1.0) * ((4 * (two * two)) as f64) <= (reach * reach) as f64 {
-        return IntersectionType::FullyCovered;
-    }
-    IntersectionType::Intersecting
 }

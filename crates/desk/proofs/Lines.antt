@@ -1,29 +1,20 @@
--- Laws of the input: digits, lines one digit and one line shorter, two's complement, powers of two as floats.
+-- Laws of the input: lines one digit and one line shorter, powers of two as floats.
 use mathlib.Core.Path.{◌≡◌, refl, sym, ap, ◌∙◌}
 use mathlib.Core.Logic.{◌⊎◌, ⊎_elim}
-use mathlib.Core.Bool.{Bool, true, false, ◌&&◌, ◌||◌, and-eq-true_iff, and-false}
+use mathlib.Core.Bool.{Bool, true, false, ◌&&◌, and-false}
 use mathlib.Core.List.{List}
-use Prim.Native.Nat.{ℕ, zero, suc, ◌+◌, ◌-◌, ◌*◌, ◌^◌, ◌≤◌, ◌<◌}
+use Prim.Native.Nat.{ℕ, suc, ◌+◌, ◌-◌, ◌*◌, ◌^◌, ◌≤◌, ◌<◌}
 use native.Mathlib.Omega.{arith}
 use native.Mathlib.Numerals.{add-one}
-use borrow.Author.Tests.{leb-true, le-leb, lt-leb}
+use borrow.Author.Tests.{le-leb, lt-leb}
 use lib.Dec.{leb}
-use lib.IntN.{pos, negsuc, ◌-ℤ◌}
 use lib.ListN.{get_or}
 use lib.Ieee.{Float, nan, binary64, mul, of_int}
 use Rattle.lists.specs.Words.{column}
 use Rattle.lists.specs.ListLaws.{at_numbers}
 use Rattle.hyperparams.specs.Params.{float}
-use Rattle.desk.specs.Desk.{is_digit, is_line, are_lines, line_one, channels_of, frame_count, most_frames, well_formed}
-
-pub within : (low b high : ℕ) → leb low b && leb b high ≡ true → (low ≤ b) × (b ≤ high)
-within low b high e = let h = (and-eq-true_iff (leb low b) (leb b high)).0 e in (leb-true low b h.0, leb-true b high h.1)
-
-pub either_true : (a b : Bool) {x : Bool} → x ≡ a → x ≡ true → x ≡ (a || b)
-either_true a b e t = t ∙ sym (ap (λ (z : Bool). z || b) (sym e ∙ t))
-
-pub either_false : (a b : Bool) {x y : Bool} → x ≡ a → x ≡ false → y ≡ b → y ≡ (a || b)
-either_false a b e t f = f ∙ sym (ap (λ (z : Bool). z || b) (sym e ∙ t))
+use Rattle.hexadecimal.specs.Hexadecimal.{is_digit}
+use Rattle.desk.specs.Desk.{is_line, are_lines, line_one, channels_of, frame_count, most_frames, well_formed}
 
 -- ---- lines
 line_step : (bs : List ℕ) (i end : ℕ) → i < end → is_line bs i (end - i) ≡ (is_digit (get_or bs i 0) && is_line bs (i + 1) (end - (i + 1)))
@@ -64,11 +55,6 @@ no_channels {d} n e h = ap (λ (m : ℕ). leb 1 m && leb m 4) (sym e) ∙ ⊎_el
 
 pub some_channels : {d : ℕ} (n : ℕ) → n ≡ d → 1 ≤ n → n ≤ 4 → leb 1 d && leb d 4 ≡ true
 some_channels {d} n e l g = ap (λ (m : ℕ). leb 1 m && leb m 4) (sym e) ∙ rw (le-leb 1 n l, le-leb n 4 g)
-
--- ---- -1 - m
-pub below_zero : (m : ℕ) → (negsuc 0 -ℤ pos m) ≡ negsuc m
-below_zero zero = refl
-below_zero (suc m) = let e : suc (0 + m) ≡ suc m = omega arith in ap negsuc e
 
 -- ---- twice a power of two
 doubles : column (λ k. mul binary64 (float (2 ^ k)) (float 2)) 255 ≡ column (λ k. float (2 ^ (k + 1))) 255

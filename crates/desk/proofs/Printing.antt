@@ -1,28 +1,18 @@
--- Laws of the output: lines laid part by part, one frame line more, and how long the output is.
+-- Laws of the output: one frame line more, and how long the output is.
+use Rattle.std.specs.Prelude.{Ok}
 use mathlib.Core.Path.{◌≡◌, refl, sym, ap, ◌∙◌}
 use mathlib.Core.List.{List, [], ◌∷◌, ◌++◌, append-nil}
 use Prim.Native.Nat.{ℕ, zero, suc, ◌+◌, ◌*◌, ◌≤◌, ◌<◌}
 use native.Mathlib.Omega.{arith}
 use native.Mathlib.Numerals.{add-one}
-use lib.ListN.{length, get_or, set, length-append}
+use lib.ListN.{length, get_or, length-append}
 use Rattle.lists.specs.Lists.{concat}
 use Rattle.lists.specs.Words.{over, column}
 use Rattle.lists.specs.CountLaws.{concat_append}
 use Rattle.lists.proofs.PartLaws.{column_snoc}
-use Rattle.lists.proofs.WordLaws.{over_nil, over_length, over_next, over_snoc, set_over}
-use Rattle.appx_dbscan.specs.declared.Outcome.{Outcome}
-use Rattle.appx_dbscan.specs.declared.Outcome.TheVariants.{Labelled, Refused}
-use Rattle.desk.specs.Desk.{hex2, hex4, frame_line, frame_lines, count_line, refusal_line, lines_of, most_frames, most_bytes}
-
-pub two_sets : (xs : List ℕ) (at a b : ℕ) → at + 2 ≤ length xs → set (set xs at a) (at + 1) b ≡ over xs at (a ∷ (b ∷ []))
-two_sets xs at a b h = ap (λ (z : List ℕ). set z (at + 1) b) (set_over xs at a (omega arith)) ∙ over_snoc xs at (at + 1) (a ∷ []) b refl (omega arith)
-
--- a line of two parts
-pub line_laid : (xs : List ℕ) (at b end : ℕ) (us vs : List ℕ) (x : ℕ) → b ≡ at + length us → end ≡ b + length vs → end < length xs
-    → set (over (over xs at us) b vs) end x ≡ over xs at (us ++ vs ++ (x ∷ []))
-line_laid xs at b end us vs x p q h =
-    ap (λ (z : List ℕ). set z end x) (over_next xs at b us vs p (omega arith))
-    ∙ over_snoc xs at end (us ++ vs) x (omega (arith, length-append us vs)) h
+use Rattle.lists.proofs.WordLaws.{over_nil, over_length, over_next}
+use Rattle.appx_dbscan.specs.declared.Counts.{Counts}
+use Rattle.desk.specs.Desk.{hex2, hex4, frame_line, frame_lines, count_line, lines_of}
 
 -- one frame line more
 pub frame_lines_more : (ks ls : List ℕ) (n : ℕ) → frame_lines ks ls (n + 1) ≡ frame_lines ks ls n ++ frame_line (get_or ks n 0) (get_or ls n 0)
@@ -67,15 +57,10 @@ module _ {ks ls xs : List ℕ} {n : ℕ} {out : List ℕ} {i : ℕ} (c : Laid ks
   laid_end h = let e : i ≡ n = omega (arith, c.high) in c.work ∙ ap (λ (j : ℕ). over xs 0 (frame_lines ks ls j)) e
 
 -- ---- the lines of an outcome
-pub labelled_length : (ks ls : List ℕ) (n a b : ℕ) → length (lines_of (Labelled a b) ks ls n) ≡ 7 * n + 9
+pub labelled_length : (ks ls : List ℕ) (n : ℕ) (k : Counts) → length (lines_of (Ok k) ks ls n) ≡ 7 * n + 9
 unfolding count_line hex4 hex2
-labelled_length ks ls n a b = length-append (frame_lines ks ls n) (count_line a b) ∙ omega (arith, frame_lines_length ks ls n)
+labelled_length ks ls n k = length-append (frame_lines ks ls n) (count_line k.clusters k.core_frames) ∙ omega (arith, frame_lines_length ks ls n)
 
-pub labelled_laid : (ks ls xs : List ℕ) (n a b : ℕ) → 7 * n + 9 ≤ length xs → over (over xs 0 (frame_lines ks ls n)) (7 * n) (count_line a b) ≡ over xs 0 (lines_of (Labelled a b) ks ls n)
+pub labelled_laid : (ks ls xs : List ℕ) (n : ℕ) (k : Counts) → 7 * n + 9 ≤ length xs → over (over xs 0 (frame_lines ks ls n)) (7 * n) (count_line k.clusters k.core_frames) ≡ over xs 0 (lines_of (Ok k) ks ls n)
 unfolding count_line hex4 hex2
-labelled_laid ks ls xs n a b h = over_next xs 0 (7 * n) (frame_lines ks ls n) (count_line a b) (omega (arith, frame_lines_length ks ls n)) h
-
-pub lines_length : (o : Outcome) (ks ls : List ℕ) (n : ℕ) → n ≤ most_frames → length (lines_of o ks ls n) ≤ most_bytes
-unfolding refusal_line hex2
-lines_length (Refused r) ks ls n h = omega arith
-lines_length (Labelled a b) ks ls n h = omega (arith, labelled_length ks ls n a b)
+labelled_laid ks ls xs n k h = over_next xs 0 (7 * n) (frame_lines ks ls n) (count_line k.clusters k.core_frames) (omega (arith, frame_lines_length ks ls n)) h

@@ -1,23 +1,19 @@
--- Laws of the run: the lines of its outcome are the answer to what was parsed, and the output fits its array.
-use mathlib.Core.Path.{◌≡◌, refl, sym, ap, ap₂, ◌∙◌}
-use mathlib.Core.Bool.{Bool, true, false}
+-- Laws of the run: the lines of its outcome are the answer to what was parsed.
+use mathlib.Core.Path.{◌≡◌, sym, ap, ap₂, ◌∙◌}
+use mathlib.Core.Bool.{true}
 use mathlib.Core.List.{List}
 use Prim.Native.Nat.{ℕ, ◌*◌, ◌/◌, ◌≤◌}
 use native.Mathlib.Omega.{arith}
 use native.Mathlib.Nat.{mul-le-mul, mul-div_cancel}
 use lib.IntN.{ℤ}
-use lib.ListN.{length, take, replicate, length-replicate}
-use Rattle.lists.specs.Words.{over, column}
+use lib.ListN.{length, replicate, length-replicate}
+use Rattle.lists.specs.Words.{column}
 use Rattle.lists.specs.ListLaws.{length_numbers}
-use Rattle.lists.proofs.PartLaws.{part_same}
 use Rattle.hyperparams.specs.declared.Params.{Params}
-use Rattle.hyperparams.specs.declared.Checked.{Checked}
-use Rattle.hyperparams.specs.Params.{checked_of}
-use Rattle.appx_dbscan.specs.declared.Outcome.{Outcome}
-use Rattle.appx_dbscan.specs.Transform.{outcome_of, labels_left, kinds_left, checked_call}
-use Rattle.desk.specs.Desk.{channels_of, frame_count, most_frames, most_words, well_formed, count_at, parsed, settings_of, verdict, hex2, refusal_line, lines_of, answer_to, desk_of, most_bytes}
-use Rattle.desk.specs.Lengths.{whole, desk_malformed, desk_whole}
-use Rattle.desk.proofs.Printing.{lines_length}
+use Rattle.hyperparams.specs.Params.{Verdict, checked_of}
+use Rattle.appx_dbscan.specs.Transform.{Outcome, outcome_of, labels_left, kinds_left, checked_call}
+use Rattle.desk.specs.Desk.{channels_of, frame_count, most_frames, most_words, well_formed, count_at, parsed, settings_of, verdict, lines_of, answer_to}
+use Rattle.desk.specs.Lengths.{whole}
 
 -- n frames of d channels, as a well-formed input has them
 pub record Frames (n d : ℕ) : Type 0 where
@@ -32,13 +28,9 @@ module _ (bs : List ℕ) (w : well_formed bs ≡ true) {n d : ℕ} (en : n ≡ f
       record { some = omega arith; frames = omega arith; counts = mul-le-mul {m₁ = d} {n₂ = 256} {m₂ = 4} (omega arith) (omega arith) }
 
   -- what was read of the points
-  points_are : (xs : List ℤ) {ps : List ℤ} → ps ≡ over xs 0 (column (count_at bs d) (n * d)) → take (n * d) ps ≡ (parsed bs).points
+  points_are : {ps : List ℤ} → ps ≡ column (count_at bs d) (n * d) → ps ≡ (parsed bs).points
   unfolding parsed
-  points_are xs e =
-      let read = column (count_at bs d) (n * d) in
-      ap (take (n * d)) e
-      ∙ part_same xs 0 (n * d) read (omega arith) (length_numbers (count_at bs d) (n * d))
-      ∙ ap₂ (λ (k m : ℕ). column (count_at bs k) (m * k)) ed en
+  points_are e = e ∙ ap₂ (λ (k m : ℕ). column (count_at bs k) (m * k)) ed en
 
   frames_are : length (parsed bs).points / (parsed bs).channels ≡ n
   unfolding parsed
@@ -55,35 +47,17 @@ module _ (bs : List ℕ) (w : well_formed bs ≡ true) {n d : ℕ} (en : n ≡ f
       ∙ ap₂ (λ (q : Params) (l : List ℤ). checked_of q (length l) most_frames most_frames most_words) e f
 
   -- the lines of what the run leaves
-  pub answered : (xs : List ℤ) {p : Params} {ps : List ℤ} {o : Outcome} {labels kinds : List ℕ} → p ≡ settings_of (parsed bs) → ps ≡ over xs 0 (column (count_at bs d) (n * d))
+  pub answered : {p : Params} {ps : List ℤ} {o : Outcome} {labels kinds : List ℕ} → p ≡ settings_of (parsed bs) → ps ≡ column (count_at bs d) (n * d)
       → let empty : List ℕ = replicate most_frames 0 in
-      let c = checked_call p (take (n * d) ps) empty empty (replicate most_words 0) in
-      o ≡ outcome_of c (take (n * d) ps) → labels ≡ labels_left c (take (n * d) ps) empty → kinds ≡ kinds_left c (take (n * d) ps) empty
+      let c = checked_call p ps empty empty (replicate most_words 0) in
+      o ≡ outcome_of c ps → labels ≡ labels_left c ps empty → kinds ≡ kinds_left c ps empty
       → lines_of o kinds labels n ≡ answer_to (parsed bs)
   unfolding answer_to
-  answered xs {p} {ps} {o} {labels} {kinds} ep eps eo el ek =
+  answered {p} {ps} {o} {labels} {kinds} ep eps eo el ek =
       let empty : List ℕ = replicate most_frames 0 in
-      let read = take (n * d) ps in
-      let c = checked_call p read empty empty (replicate most_words 0) in
-      let lines : Checked → List ℤ → ℕ → List ℕ = λ v l m. lines_of (outcome_of v l) (kinds_left v l empty) (labels_left v l empty) m in
+      let c = checked_call p ps empty empty (replicate most_words 0) in
+      let lines : Verdict → List ℤ → ℕ → List ℕ = λ v l m. lines_of (outcome_of v l) (kinds_left v l empty) (labels_left v l empty) m in
       ap (λ (r : Outcome). lines_of r kinds labels n) eo
-      ∙ ap₂ (λ (k l : List ℕ). lines_of (outcome_of c read) k l n) ek el
-      ∙ ap₂ (λ (v : Checked) (l : List ℤ). lines v l n) (verdict_is ep (points_are xs eps)) (points_are xs eps)
+      ∙ ap₂ (λ (k l : List ℕ). lines_of (outcome_of c ps) k l n) ek el
+      ∙ ap₂ (λ (v : Verdict) (l : List ℤ). lines v l n) (verdict_is ep (points_are eps)) (points_are eps)
       ∙ ap (lines (verdict (parsed bs)) (parsed bs).points) (sym frames_are)
-
--- the output fits its array
-answer_length : (bs : List ℕ) → well_formed bs ≡ true → length (answer_to (parsed bs)) ≤ most_bytes
-unfolding answer_to
-answer_length bs w =
-    let p = parsed bs in
-    let empty : List ℕ = replicate most_frames 0 in
-    lines_length (outcome_of (verdict p) p.points) (kinds_left (verdict p) p.points empty) (labels_left (verdict p) p.points empty) (length p.points / p.channels)
-    (omega (arith, frames_are bs w refl refl, (whole bs w).frames))
-
-pub desk_length : (bs : List ℕ) → length (desk_of bs) ≤ most_bytes
-unfolding refusal_line hex2
-desk_length bs = by (well_formed bs) refl
-  where
-    by : (b : Bool) → well_formed bs ≡ b → length (desk_of bs) ≤ most_bytes
-    by true e = omega (arith, ap length (desk_whole bs e), answer_length bs e)
-    by false e = omega (arith, ap length (desk_malformed bs e))

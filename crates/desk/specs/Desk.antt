@@ -1,41 +1,15 @@
 -- Document 01, "The desk program" and the table's number 10: from the bytes of the input to the bytes of the output. Definitions only.
-use Rattle.std.specs.Prelude.{Bool, ◌&&◌, ◌||◌, cond, List, [], ◌∷◌, ◌++◌, ℕ, zero, suc, ◌+◌, ◌-◌, ◌*◌, ◌/◌, ◌%◌, leb, ltb, eqb, ℤ, pos, negsuc, length, get_or, replicate}
+use Rattle.std.specs.Prelude.{Bool, ◌&&◌, cond, List, [], ◌∷◌, ◌++◌, ℕ, zero, suc, ◌+◌, ◌-◌, ◌*◌, ◌/◌, ◌%◌, leb, ltb, eqb, ℤ, length, get_or, replicate, Ok, Err}
 use Rattle.lists.specs.Lists.{concat}
-use Rattle.lists.specs.Words.{over, column}
+use Rattle.lists.specs.Words.{column}
+use Rattle.hexadecimal.specs.Hexadecimal.{is_digit, number, signed}
 use Rattle.hyperparams.specs.declared.Params.{Params}
-use Rattle.hyperparams.specs.declared.Checked.{Checked}
-use Rattle.hyperparams.specs.Params.{float, slack_at, checked_of, number_of, work_words}
-use Rattle.appx_dbscan.specs.declared.Outcome.{Outcome}
-use Rattle.appx_dbscan.specs.Transform.{run, outcome_of, labels_left, kinds_left}
-use Rattle.desk.specs.declared.Printed.{Printed}
+use Rattle.hyperparams.specs.Params.{Verdict, float, slack_at, checked_of, number_of, work_words}
+use Rattle.appx_dbscan.specs.Transform.{Outcome, run, outcome_of, labels_left, kinds_left}
 
 -- ---- the input: "lowercase hexadecimal, each line ended by a line feed"
 abbrev pub line_feed : ℕ
 line_feed = 10
-
--- 0 to 9
-abbrev pub is_decimal : ℕ → Bool
-is_decimal b = leb 48 b && leb b 57
-
--- a to f
-abbrev pub is_letter : ℕ → Bool
-is_letter b = leb 97 b && leb b 102
-
-abbrev pub is_digit : ℕ → Bool
-is_digit b = is_decimal b || is_letter b
-
--- what a digit stands for, 0 where the byte is none
-unfoldable pub digit_of : ℕ → ℕ
-digit_of b = cond (is_decimal b) (b - 48) (cond (is_letter b) (b - 87) 0)
-
--- the numbers in the two and in the four digits at a place
-unfoldable pub two : List ℕ → ℕ → ℕ
-unfolding digit_of
-two bs at = 16 * digit_of (get_or bs at 0) + digit_of (get_or bs (at + 1) 0)
-
-unfoldable pub four : List ℕ → ℕ → ℕ
-unfolding two
-four bs at = 256 * two bs at + two bs (at + 2)
 
 -- a line of k digits stands at a place; past the end there is no digit and no line feed
 abbrev pub is_line : List ℕ → (at k : ℕ) → Bool
@@ -52,7 +26,7 @@ abbrev pub line_one : ℕ
 line_one = 12
 
 abbrev pub channels_of : List ℕ → ℕ
-channels_of bs = two bs 0
+channels_of bs = number bs 0 2
 
 -- "Then one frame a line, 4 two's complement digits a channel": how many such lines are as long as what follows line one
 abbrev pub frame_count : List ℕ → ℕ
@@ -63,7 +37,7 @@ most_frames = 256
 
 -- "Number 10: another character or length, channels not 01 to 04, over 256 frames, a missing line end."
 unfoldable pub well_formed : List ℕ → Bool
-unfolding two
+unfolding number
 well_formed bs =
     let d = channels_of bs in
     let n = frame_count bs in
@@ -72,14 +46,10 @@ well_formed bs =
     && leb n most_frames
     && are_lines bs (4 * d) n (line_one + 1)
 
--- "two's complement"
-abbrev pub signed : ℕ → ℤ
-signed n = cond (ltb n 32768) (pos n) (negsuc (65535 - n))
-
 -- count i of frames of d channels: after line one, four digits for each count before it and a line feed for each frame before it
 unfoldable pub count_at : List ℕ → (d i : ℕ) → ℤ
-unfolding four
-count_at bs d i = signed (four bs (line_one + 1 + 4 * i + i / d))
+unfolding number
+count_at bs d i = signed (number bs (line_one + 1 + 4 * i + i / d) 4)
 
 pub record Parsed : Type 0 where
   pub channels : ℕ
@@ -90,12 +60,12 @@ pub record Parsed : Type 0 where
 
 -- what a well-formed input says
 unfoldable pub parsed : List ℕ → Parsed
-unfolding two four count_at
+unfolding number count_at
 parsed bs = record {
   channels = channels_of bs;
-  min_points = four bs 2;
-  t = four bs 6;
-  s = two bs 10;
+  min_points = number bs 2 4;
+  t = number bs 6 4;
+  s = number bs 10 2;
   points = column (count_at bs (channels_of bs)) (frame_count bs * channels_of bs);
 }
 
@@ -109,7 +79,7 @@ abbrev pub most_words : ℕ
 most_words = work_words most_frames 10
 
 -- the table's verdict on the parsed input
-abbrev pub verdict : Parsed → Checked
+abbrev pub verdict : Parsed → Verdict
 verdict p = checked_of (settings_of p) (length p.points) most_frames most_frames most_words
 
 -- ---- the output: "in lowercase hexadecimal with the same line ends"
@@ -144,8 +114,8 @@ unfolding hex2
 refusal_line number = 101 ∷ (101 ∷ (hex2 number ++ (line_feed ∷ [])))
 
 abbrev pub lines_of : Outcome → (kinds labels : List ℕ) → (frames : ℕ) → List ℕ
-lines_of (Outcome.Refused r) kinds labels frames = refusal_line (number_of r)
-lines_of (Outcome.Labelled clusters cores) kinds labels frames = frame_lines kinds labels frames ++ count_line clusters cores
+lines_of (Err r) kinds labels frames = refusal_line (number_of r)
+lines_of (Ok k) kinds labels frames = frame_lines kinds labels frames ++ count_line k.clusters k.core_frames
 
 -- the answer to a parsed input: "A label is the number left in the labels slice", and so the kind byte
 unfoldable pub answer_to : Parsed → List ℕ
@@ -162,9 +132,6 @@ desk_of bs =
     let answer = answer_to (parsed bs) in
     cond (well_formed bs) answer (refusal_line 10)
 
--- the bytes in an array, zeros after them, and how many they are
+-- the longest output: a line of 7 bytes for each frame, and 9 for the last line
 abbrev pub most_bytes : ℕ
 most_bytes = most_frames * 7 + 9
-
-abbrev pub printed_of : List ℕ → Printed
-printed_of bs = record { bytes = over (replicate most_bytes 0) 0 bs; len = length bs }

@@ -3,7 +3,8 @@ use Rattle.std.specs.Prelude.{◌≡◌, refl, true, false, List, [], ◌∷◌,
 use Prim.Native.Char.{code}
 use Prim.Native.String as Text
 use Rattle.lists.specs.Lists.{numbers, concat}
-use Rattle.desk.specs.Desk.{two, well_formed, signed, hex2, desk_of}
+use Rattle.hexadecimal.specs.Hexadecimal.{number, signed}
+use Rattle.desk.specs.Desk.{well_formed, hex2, desk_of}
 
 -- the bytes of a text
 abbrev pub bytes : Text.String → List ℕ
@@ -14,8 +15,8 @@ abbrev pub desk : Text.String → List ℕ
 desk s = desk_of (bytes s)
 
 -- every byte, written in two digits, reads back
-bytes_back : map (λ n. two (hex2 n) 0) (numbers 256) ≡ numbers 256
-unfolding two hex2
+bytes_back : map (λ n. number (hex2 n) 0 2) (numbers 256) ≡ numbers 256
+unfolding number hex2
 bytes_back = refl
 
 -- the least and the greatest count, and the numbers around them

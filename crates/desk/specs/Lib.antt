@@ -1,3 +1,4 @@
 pub mod Desk
 pub mod Lengths
 pub mod Examples
+pub mod Printed

@@ -1,11 +1,11 @@
 // The input: "lowercase hexadecimal, each line ended by a line feed".
-ghost use Rattle.std.specs.Prelude.{◌≡◌, ◌&&◌, ◌+◌, ◌≤◌, ◌<◌, leb, length, get_or};
+ghost use Rattle.std.specs.Prelude.{◌≡◌, ◌+◌, ◌≤◌, ◌<◌, length, get_or};
+ghost use Rattle.hexadecimal.specs.Hexadecimal.{is_digit};
 ghost use Rattle.lists.specs.Words.{over, column};
 ghost use Rattle.hyperparams.specs.Params.{slack_at};
-ghost use Rattle.desk.specs.Desk.{is_decimal, is_letter, is_digit, digit_of, is_line, are_lines, channels_of, frame_count, most_frames, well_formed, signed, count_at, parsed, settings_of};
-ghost use Rattle.desk.specs.Desk.{two as Desk·two};
-ghost use Rattle.desk.specs.Desk.{four as Desk·four};
+ghost use Rattle.desk.specs.Desk.{is_line, are_lines, channels_of, frame_count, most_frames, well_formed, count_at, parsed, settings_of};
 
+use hexadecimal::{digit, number, signed};
 use hyperparams::Params;
 
 pub const LINE_FEED: u8 = 10;
@@ -22,66 +22,13 @@ pub const MAX_POINTS: usize = MAX_FRAMES * hyperparams::MAX_CHANNELS;
 fn byte(input: &[u8], at: usize) -> u8
     ensures { result ≡ get_or input.now at 0 }
 {
-    if at < input.len() {
-        return input[at];
-    }
-    0
-}
-
-fn is_between(b: u8, low: u8, high: u8) -> bool
-    ensures { result ≡ (leb low b && leb b high) }
-{
-    low <= b && b <= high
-}
-
-fn is_decimal(b: u8) -> bool
-    ensures { result ≡ is_decimal b }
-{
-    is_between(b, b'0', b'9')
-}
-
-fn is_letter(b: u8) -> bool
-    ensures { result ≡ is_letter b }
-{
-    is_between(b, b'a', b'f')
+    input.get(at).copied().unwrap_or(0)
 }
 
 fn is_digit(b: u8) -> bool
     ensures { result ≡ is_digit b }
 {
-    is_decimal(b) || is_letter(b)
-}
-
-// What a digit stands for, 0 where the byte is none.
-fn digit(b: u8) -> usize
-    ensures value { result ≡ digit_of b }
-    ensures bound { result < 16 }
-{
-    if is_decimal(b) {
-        return (b - 48) as usize;
-    }
-    if is_letter(b) {
-        return (b - 87) as usize;
-    }
-    0
-}
-
-// The number in two digits.
-fn two(input: &[u8], at: usize) -> usize
-    requires { at ≤ 8192 }
-    ensures value { result ≡ Desk·two input.now at }
-    ensures bound { result < 256 }
-{
-    16 * digit(byte(input, at)) + digit(byte(input, at + 1))
-}
-
-// The number in four digits.
-fn four(input: &[u8], at: usize) -> usize
-    requires { at ≤ 8190 }
-    ensures value { result ≡ Desk·four input.now at }
-    ensures bound { result < 65536 }
-{
-    256 * two(input, at) + two(input, at + 2)
+    digit(b).is_some()
 }
 
 // Whether a line of k digits stands at a place.
@@ -118,7 +65,7 @@ pub(crate) fn channels(input: &[u8]) -> usize
     ensures value { result ≡ channels_of input.now }
     ensures bound { result < 256 }
 {
-    two(input, 0)
+    number(input, 0, 2) as usize
 }
 
 // How many frame lines are as long as what follows line one.
@@ -126,10 +73,7 @@ pub(crate) fn frame_count(input: &[u8]) -> usize
     ensures { result ≡ frame_count input.now }
 {
     let d = channels(input);
-    if input.len() <= LINE_ONE {
-        return 0;
-    }
-    (input.len() - (LINE_ONE + 1)) / (4 * d + 1)
+    input.len().saturating_sub(LINE_ONE + 1) / (4 * d + 1)
 }
 
 // Whether the input is not malformed, "number 10".
@@ -150,32 +94,22 @@ pub(crate) fn well_formed(input: &[u8]) -> bool
     are_lines(input, 4 * d, n, LINE_ONE + 1)
 }
 
-// "two's complement"
-fn twos_complement(n: usize) -> i16
-    requires { n < 65536 }
-    ensures { result ≡ signed n }
-{
-    if n < 32768 {
-        return n as i16;
-    }
-    -1 - ((65535 - n) as i16)
-}
-
 // Count i of the frames of d channels.
+#[tactic(auto, unfolding(crate::specs::Desk::count_at))]
 fn count_at(input: &[u8], d: usize, i: usize) -> i16
     requires { (1 ≤ d) × (i < 1024) }
     ensures { result ≡ count_at input.now d i }
 {
-    twos_complement(four(input, LINE_ONE + 1 + 4 * i + i / d))
+    signed(input, LINE_ONE + 1 + 4 * i + i / d)
 }
 
-// The first n counts of the frames of d channels.
-pub(crate) fn read_points(input: &[u8], d: usize, n: usize, points: &mut [i16])
-    requires { (1 ≤ d) × ((n ≤ 1024) × (n ≤ length points.old)) }
-    ensures { points.new ≡ over points.old 0 (column (count_at input.now d) n) }
+// Reads as many counts of the frames of d channels as there is room for.
+pub(crate) fn read_points(input: &[u8], d: usize, points: &mut [i16])
+    requires { (1 ≤ d) × (length points.old ≤ 1024) }
+    ensures { points.new ≡ column (count_at input.now d) (length points.old) }
 {
-    for i in 0..n {
-        points[i] = count_at(input, d, i);
+    for (i, point) in points.iter_mut().enumerate() {
+        *point = count_at(input, d, i);
     }
 }
 
@@ -192,13 +126,14 @@ fn slack(s: usize) -> f64
 }
 
 // The settings of line one.
+#[tactic(auto, unfolding(crate::specs::Desk::parsed))]
 pub(crate) fn settings(input: &[u8]) -> Params
     ensures { result ≡ settings_of (parsed input.now) }
 {
     Params {
         channels: channels(input),
-        min_points: four(input, 2),
-        tolerance: (four(input, 6) as u16) as f64,
-        slack: slack(two(input, 10)),
+        min_points: number(input, 2, 4) as usize,
+        tolerance: (number(input, 6, 4) as u16) as f64,
+        slack: slack(number(input, 10, 2) as usize),
     }
 }

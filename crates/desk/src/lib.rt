@@ -4,11 +4,12 @@
 mod input;
 mod output;
 
-ghost use Rattle.std.specs.Prelude.{◌≡◌, true, ◌≤◌, length, take};
+ghost use Rattle.std.specs.Prelude.{◌≡◌, true, ◌≤◌, length};
 ghost use Rattle.lists.specs.Words.{over};
-ghost use Rattle.desk.specs.Desk.{well_formed, parsed, answer_to, desk_of, most_bytes, printed_of};
+ghost use Rattle.desk.specs.Desk.{well_formed, parsed, answer_to, desk_of, most_bytes};
 
 use input::{MAX_FRAMES, MAX_POINTS};
+use std::marker::Model;
 
 // The longest output: a line of 7 bytes for each frame, and 9 for the last line.
 pub const MAX_OUTPUT: usize = MAX_FRAMES * 7 + 9;
@@ -19,14 +20,39 @@ pub const MAX_INPUT: usize = 13 + MAX_FRAMES * 17;
 // "frames × (16 + 4 × (L + 1))", for 256 frames at s = 10.
 const MAX_WORDS: usize = MAX_FRAMES * (16 + 4 * 12);
 
-// Bytes in the front of an array.
+// The bytes of an output. Zeros follow them in the array.
 #[derive(Clone, Copy)]
 pub struct Printed {
-    pub bytes: [u8; MAX_OUTPUT],
-    pub len: usize,
+    bytes: [u8; MAX_OUTPUT],
+    len: usize,
+}
+
+impl Model for Printed {
+    ghost use Rattle.std.specs.Prelude.{List, ℕ};
+
+    ghost Value = { List ℕ };
+
+    ghost use Rattle.desk.specs.Printed.{bytes_of, printed_of, IsPadded, printed_back};
+
+    ghost view = { bytes_of };
+
+    ghost invariant = { IsPadded };
+
+    ghost inverse = { printed_of };
+
+    ghost inverse_ok = { printed_back };
+}
+
+impl Printed {
+    pub fn as_bytes(&self) -> &[u8]
+        ensures { result.now ≡ self.now }
+    {
+        &self.bytes[..self.len]
+    }
 }
 
 // The run of a well-formed input, and its answer or refusal.
+#[tactic(auto, using(crate::proofs::Whole::sizes))]
 fn run(input: &[u8], output: &mut [u8]) -> usize
     requires whole { well_formed input.now ≡ true }
     requires room { most_bytes ≤ length output.old }
@@ -35,14 +61,14 @@ fn run(input: &[u8], output: &mut [u8]) -> usize
 {
     let d = input::channels(input);
     let frames = input::frame_count(input);
-    let n = frames * d;
-    let mut points = [0i16; MAX_POINTS];
+    let mut room = [0i16; MAX_POINTS];
+    let points = &mut room[..frames * d];
     let mut labels = [0u16; MAX_FRAMES];
     let mut kinds = [0u8; MAX_FRAMES];
     let mut work = [0u16; MAX_WORDS];
-    input::read_points(input, d, n, &mut points);
+    input::read_points(input, d, points);
     let p = input::settings(input);
-    let outcome = appx_dbscan::transform(&points[..n], p, &mut labels, &mut kinds, &mut work);
+    let outcome = appx_dbscan::transform(points, p, &mut labels, &mut kinds, &mut work);
     output::put_outcome(output, outcome, &kinds, &labels, frames)
 }
 
@@ -59,11 +85,10 @@ fn respond(input: &[u8], output: &mut [u8]) -> usize
     run(input, output)
 }
 
-// The output of an input: its first `len` bytes, and zeros after them.
+// The output of an input.
 pub fn answer(input: &[u8]) -> Printed
-    ensures bytes { take result.len result.bytes ≡ desk_of input.now }
-    ensures whole { result ≡ printed_of (desk_of input.now) }
-    ensures bound { result.len ≤ length result.bytes }
+    ensures bytes { result ≡ desk_of input.now }
+    ensures bound { length result ≤ most_bytes }
 {
     let mut bytes = [0u8; MAX_OUTPUT];
     let len = respond(input, &mut bytes);

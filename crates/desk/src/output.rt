@@ -1,50 +1,74 @@
 // The output: "in lowercase hexadecimal with the same line ends".
 ghost use Rattle.std.specs.Prelude.{◌≡◌, ◌+◌, ◌*◌, ◌≤◌, ◌<◌, length};
 ghost use Rattle.lists.specs.Words.{over};
-ghost use Rattle.desk.specs.Desk.{hex2, hex4, frame_line, frame_lines, count_line, refusal_line, lines_of};
+ghost use Rattle.desk.specs.Desk.{hex2, hex4, frame_lines, lines_of};
 ghost use Rattle.desk.specs.Desk.{glyph as Desk·glyph};
+ghost use Rattle.desk.specs.Desk.{frame_line as Desk·frame_line};
+ghost use Rattle.desk.specs.Desk.{count_line as Desk·count_line};
+ghost use Rattle.desk.specs.Desk.{refusal_line as Desk·refusal_line};
 
 use crate::input::LINE_FEED;
-use appx_dbscan::Outcome;
+use appx_dbscan::Counts;
+use hyperparams::Refusal;
 
+#[tactic(auto, unfolding(crate::specs::Desk::glyph))]
 fn glyph(n: usize) -> u8
     requires { n < 16 }
     ensures { result ≡ Desk·glyph n }
 {
     if n < 10 {
-        return 48 + n as u8;
+        return b'0' + n as u8;
     }
-    87 + n as u8
+    b'a' - 10 + n as u8
 }
 
 // The last two digits of n.
-fn put_two(output: &mut [u8], at: usize, n: usize)
-    requires { at + 2 ≤ length output.old }
-    ensures { output.new ≡ over output.old at (hex2 n) }
+#[tactic(auto, unfolding(crate::specs::Desk::hex2))]
+fn two_digits(n: usize) -> [u8; 2]
+    ensures { result ≡ hex2 n }
 {
     let high = glyph(n / 16 % 16);
     let low = glyph(n % 16);
-    output[at] = high;
-    output[at + 1] = low;
+    [high, low]
 }
 
 // The last four digits of n.
-fn put_four(output: &mut [u8], at: usize, n: usize)
-    requires { at + 4 ≤ length output.old }
-    ensures { output.new ≡ over output.old at (hex4 n) }
+#[tactic(auto, unfolding(crate::specs::Desk::hex4, crate::specs::Desk::hex2))]
+fn four_digits(n: usize) -> [u8; 4]
+    ensures { result ≡ hex4 n }
 {
-    put_two(output, at, n / 256);
-    put_two(output, at + 2, n);
+    let [a, b] = two_digits(n / 256);
+    let [c, d] = two_digits(n);
+    [a, b, c, d]
 }
 
 // "a line per frame, kind (2 digits) and label (4)"
-fn put_frame(output: &mut [u8], at: usize, kind: u8, label: u16)
-    requires { at + 7 ≤ length output.old }
-    ensures { output.new ≡ over output.old at (frame_line kind label) }
+#[tactic(auto, unfolding(crate::specs::Desk::frame_line, crate::specs::Desk::hex4, crate::specs::Desk::hex2))]
+fn frame_line(kind: u8, label: u16) -> [u8; 7]
+    ensures { result ≡ Desk·frame_line kind label }
 {
-    put_two(output, at, kind as usize);
-    put_four(output, at + 2, label as usize);
-    output[at + 6] = LINE_FEED;
+    let [high, low] = two_digits(kind as usize);
+    let [a, b, c, d] = four_digits(label as usize);
+    [high, low, a, b, c, d, LINE_FEED]
+}
+
+// "then a line of clusters (4) and core frames (4)"
+#[tactic(auto, unfolding(crate::specs::Desk::count_line, crate::specs::Desk::hex4, crate::specs::Desk::hex2))]
+fn count_line(clusters: usize, cores: usize) -> [u8; 9]
+    ensures { result ≡ Desk·count_line clusters cores }
+{
+    let [a, b, c, d] = four_digits(clusters);
+    let [e, f, g, h] = four_digits(cores);
+    [a, b, c, d, e, f, g, h, LINE_FEED]
+}
+
+// "A refusal prints only one line, `ee` and its number in 2 such digits."
+#[tactic(auto, unfolding(crate::specs::Desk::refusal_line, crate::specs::Desk::hex2))]
+fn refusal_line(number: u8) -> [u8; 5]
+    ensures { result ≡ Desk·refusal_line number }
+{
+    let [high, low] = two_digits(number as usize);
+    [b'e', b'e', high, low, LINE_FEED]
 }
 
 // The lines of the first n frames.
@@ -53,35 +77,31 @@ fn put_frames(output: &mut [u8], kinds: &[u8], labels: &[u16], n: usize)
     ensures { output.new ≡ over output.old 0 (frame_lines kinds.now labels.now n) }
 {
     for i in 0..n {
-        put_frame(output, 7 * i, kinds[i], labels[i]);
+        output[7 * i..7 * i + 7].copy_from_slice(&frame_line(kinds[i], labels[i]));
     }
 }
 
-// "then a line of clusters (4) and core frames (4)"
+// The last line, from a place on.
 fn put_counts(output: &mut [u8], at: usize, clusters: usize, cores: usize)
     requires { at + 9 ≤ length output.old }
-    ensures { output.new ≡ over output.old at (count_line clusters cores) }
+    ensures { output.new ≡ over output.old at (Desk·count_line clusters cores) }
 {
-    put_four(output, at, clusters);
-    put_four(output, at + 4, cores);
-    output[at + 8] = LINE_FEED;
+    output[at..at + 9].copy_from_slice(&count_line(clusters, cores));
 }
 
-// "A refusal prints only one line, `ee` and its number in 2 such digits."
+// The line of a refusal.
 pub(crate) fn put_refusal(output: &mut [u8], number: u8)
     requires { 5 ≤ length output.old }
-    ensures { output.new ≡ over output.old 0 (refusal_line number) }
+    ensures { output.new ≡ over output.old 0 (Desk·refusal_line number) }
 {
-    output[0] = b'e';
-    output[1] = b'e';
-    put_two(output, 2, number as usize);
-    output[4] = LINE_FEED;
+    output[..5].copy_from_slice(&refusal_line(number));
 }
 
 // The lines of an outcome, and how many bytes they are.
+#[tactic(auto, using(crate::proofs::Printing::labelled_length, crate::proofs::Printing::labelled_laid), unfolding(crate::specs::Desk::refusal_line, crate::specs::Desk::hex2))]
 pub(crate) fn put_outcome(
     output: &mut [u8],
-    outcome: Outcome,
+    outcome: Result<Counts, Refusal>,
     kinds: &[u8],
     labels: &[u16],
     frames: usize,
@@ -91,16 +111,13 @@ pub(crate) fn put_outcome(
     ensures count { result ≡ length (lines_of outcome kinds.now labels.now frames) }
 {
     match outcome {
-        Outcome::Refused(refusal) => {
-            put_refusal(output, hyperparams::number(refusal));
+        Err(refusal) => {
+            put_refusal(output, refusal.into());
             5
         }
-        Outcome::Labelled {
-            clusters,
-            core_frames,
-        } => {
+        Ok(counts) => {
             put_frames(output, kinds, labels, frames);
-            put_counts(output, 7 * frames, clusters, core_frames);
+            put_counts(output, 7 * frames, counts.clusters, counts.core_frames);
             7 * frames + 9
         }
     }

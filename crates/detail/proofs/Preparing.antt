@@ -1,11 +1,12 @@
 -- What the words hold after each step of `prepare`, what the functions that write them ask, and what the table of refusals hands on.
-use mathlib.Core.Path.{◌≡◌, sym, subst, ◌∙◌}
+use Rattle.std.specs.Prelude.{Ok}
+use mathlib.Core.Path.{◌≡◌, sym, ap, subst}
 use mathlib.Core.List.{List}
-use Prim.Native.Nat.{ℕ, ◌*◌, ◌/◌, ◌<◌, ◌≤◌}
+use Prim.Native.Nat.{ℕ, ◌+◌, ◌*◌, ◌/◌, ◌<◌, ◌≤◌}
 use native.Mathlib.Omega.{arith}
 use lib.IntN.{ℤ}
-use lib.ListN.{length, replicate, length-replicate}
-use Rattle.lists.specs.Words.{over, column, Clear}
+use lib.ListN.{length, replicate, drop, length-replicate, length-take, length-drop}
+use Rattle.lists.specs.Words.{over, part, column, Clear}
 use Rattle.lists.specs.ListLaws.{length_numbers}
 use Rattle.lists.proofs.WordLaws.{over_length}
 use Rattle.lists.proofs.PartLaws.{clear_within}
@@ -14,18 +15,19 @@ use Rattle.hyperparams.specs.Params.{work_words, max_frames, checked_of}
 use Rattle.hyperparams.specs.Accepted.{Accepted, accepted}
 use Rattle.hyperparams.specs.declared.Params.{Params}
 use Rattle.hyperparams.specs.declared.ValidParams.{ValidParams}
-use Rattle.hyperparams.specs.declared.Checked.{Checked}
-use Rattle.hyperparams.specs.declared.Checked.TheVariants.{Valid}
 use Rattle.counting_tree.specs.Geometry.{Geometry}
-use Rattle.counting_tree.specs.Ready.{geometry_at, Ready, at_frames, ready_of}
+use Rattle.counting_tree.specs.Ready.{geometry_at, Ready, at_frames}
 use Rattle.cells_grid.specs.Cells.{cells}
 use Rattle.cells_grid.specs.Places.{populated}
 use Rattle.cells_grid.specs.Arrangement.{core_bit, Arranged, Cored}
 use Rattle.cells_grid.proofs.ArrangementLaws.{words_count, cored, populated_arranged, populated_within}
 use Rattle.cells_grid.specs.Ready.{ready_lawful}
-use Rattle.core_cells.specs.Forest.{tree_word, forest_to}
-use Rattle.core_cells.specs.ForestLaws.{grown}
-use Rattle.detail.specs.Prepared.{Prepared}
+use Rattle.core_cells.specs.Forest.{tree_word, forest_to, Grown}
+use Rattle.counting_tree.specs.declared.run.Frames.{Frames}
+use Rattle.core_cells.specs.declared.cells.CoreCells.{CoreCells}
+use Rattle.core_cells.specs.Held.{held}
+use Rattle.counting_tree.specs.Given.{geometry}
+use Rattle.core_cells.specs.ForestLaws.{grown, word_room}
 
 -- w are the words before `prepare`, w₀ after `clear_words`, w₁ after `populate`, w₂ after `label_points`, w₃ after `build_trees`
 module _ {ps : List ℤ} {v : ValidParams} {n : ℕ} (r : Ready ps v n) (w : List ℕ) {w₀ : List ℕ} (h : 24 * n ≤ length w) (e₀ : w₀ ≡ over w (10 * n) (replicate (14 * n) 0)) where
@@ -40,9 +42,6 @@ module _ {ps : List ℤ} {v : ValidParams} {n : ℕ} (r : Ready ps v n) (w : Lis
 
   all_clear : Clear w₀ (10 * n) (14 * n)
   all_clear = rw e₀ (made_clear w (10 * n) (14 * n) (omega arith))
-
-  pub clear_populate : Clear w₀ (10 * n) (3 * n) × Clear w₀ (16 * n) (8 * n)
-  clear_populate = (clear_within w₀ (10 * n) (14 * n) (10 * n) (3 * n) all_clear (omega arith) (omega arith), clear_within w₀ (10 * n) (14 * n) (16 * n) (8 * n) all_clear (omega arith) (omega arith))
 
   module _ {k : ℕ} {w₁ : List ℕ} (e : k ≡ length (cells g)) (e₁ : w₁ ≡ populated g w₀) where
     within₁ : Within (4 * n) w₀ w₁
@@ -64,27 +63,37 @@ module _ {ps : List ℤ} {v : ValidParams} {n : ℕ} (r : Ready ps v n) (w : Lis
       pub clear₂ : Clear w₂ (10 * n) (3 * n)
       clear₂ = clear_within w₂ (10 * n) (14 * n) (10 * n) (3 * n) (within_clear within₂ (10 * n) (14 * n) (omega arith) all_clear) (omega arith) (omega arith)
 
-      pub prepared₃ : {w₃ : List ℕ} → w₃ ≡ over (over w₂ (5 * n) (column (tree_word g 0) k)) (16 * n) (forest_to g 0 k) → 16 * n ≤ length w₃ → Prepared ps v n k w₃
-      prepared₃ e₃ h₃ = record { ready = r; grown = rw e₃ (grown cored₂ f (omega (arith, h₀, within₂.size)) 0); few = words_count g (ready_lawful r) cored₂.cells n f; room = h₃ }
+      pub grown₃ : {w₃ : List ℕ} → w₃ ≡ over (over w₂ (5 * n) (column (tree_word g 0) k)) (16 * n) (forest_to g 0 k) → Grown g k w₃
+      grown₃ e₃ = rw e₃ (grown cored₂ f (omega (arith, h₀, within₂.size)) 0)
 
-module _ {ps : List ℤ} {v : ValidParams} {n k : ℕ} {w : List ℕ} (p : Prepared ps v n k w) where
-  -- the same by the number of cells
-  pub all_arranged : Arranged (geometry_at v n ps) (length (cells (geometry_at v n ps))) w
-  all_arranged = let A = p.grown.cored.cells in subst (λ (m : ℕ). Arranged (geometry_at v n ps) m w) A.count A
+-- what the words of the cells hold
+module _ (c : CoreCells) where
+  abbrev gs : Geometry
+  gs = geometry c.frames
 
-  pub cell_below : {c : ℕ} → c < k → c < length (cells (geometry_at v n ps))
-  cell_below {c} h = subst (λ (m : ℕ). c < m) p.grown.cored.cells.count h
+  stands : Arranged gs c.k c.work.now
+  stands = (held c).cored.cells
+
+  pub few_cells : c.k ≤ c.frames.n
+  few_cells = words_count gs (ready_lawful c.frames.ready) stands c.frames.n (at_frames c.frames.v c.frames.n c.frames.points.now)
+
+  pub core_room : {i : ℕ} → i < c.frames.n → 5 * c.frames.n ≤ length c.work.now
+  core_room {i} h =
+      let n = c.frames.n in
+      let cores = subst (λ (m : ℕ). part c.work.now (4 * m) m ≡ column (core_bit gs) m) (at_frames c.frames.v n c.frames.points.now) (held c).cored.cores in
+      omega (arith, ap length cores, length-take n (drop (4 * n) c.work.now), length-drop (4 * n) c.work.now, length_numbers (core_bit gs) n)
+
+  pub room : {d : ℕ} → d < c.k → 5 * c.frames.n + d < length c.work.now
+  room {d} h = word_room (held c) (at_frames c.frames.v c.frames.n c.frames.points.now) d h
 
 -- what the table accepts, with labels and kinds for every frame
-module _ (p : Params) (ps : List ℤ) (work : ℕ) {r : Checked} {v : ValidParams} (a : r ≡ checked_of p (length ps) max_frames max_frames work) (b : r ≡ Valid v) where
-  e : checked_of p (length ps) max_frames max_frames work ≡ Valid v
-  e = sym a ∙ b
+module _ (p : Params) (ps : List ℤ) (work : ℕ) {v : ValidParams} (a : Ok v ≡ checked_of p (length ps) max_frames max_frames work) where
+  e : checked_of p (length ps) max_frames max_frames work ≡ Ok v
+  e = sym a
 
   A : Accepted p v (length ps) max_frames max_frames work
   A = accepted p (length ps) max_frames max_frames work e
 
-  pub checked_channels : 0 < v.channels
-  checked_channels = rw A.settings A.some_channels
-
-  pub checked_ready : Ready ps v (length ps / v.channels) × (work_words (length ps / v.channels) v.s ≤ work)
-  checked_ready = (ready_of p ps max_frames max_frames work e, subst (λ (u : ValidParams). work_words (length ps / u.channels) u.s ≤ work) (sym A.settings) A.work_fits)
+  module _ (f : Frames) (settings_are : f.v ≡ v) (count_is : f.n ≡ length ps / v.channels) where
+    pub checked_room : work_words f.n f.v.s ≤ work
+    checked_room = rw (count_is, settings_are) (subst (λ (u : ValidParams). work_words (length ps / u.channels) u.s ≤ work) (sym A.settings) A.work_fits)

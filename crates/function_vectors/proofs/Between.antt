@@ -1,9 +1,9 @@
 -- A float from 2 ^ -13 to 2 ^ 16 is a side.
-use Rattle.std.proofs.Common.{◌≡◌, ℕ, ◌+◌, ◌*◌, ◌^◌, ◌≤◌, ◌<◌, Bool, true, false, not, T, pos, negsuc, refl, sym, ◌∙◌, subst, true≢false, mul-one, arith, pow_pos, nltb→le}
-use lib.Ieee.{Float, nan, inf, fin, binary64, fits, lt, ne}
+use Rattle.std.proofs.Common.{◌≡◌, ℕ, ◌+◌, ◌*◌, ◌^◌, ◌≤◌, ◌<◌, Bool, true, false, T, pos, negsuc, refl, sym, ◌∙◌, subst, true≢false, mul-one, arith, pow_pos, leb-true}
+use lib.Ieee.{Float, nan, inf, fin, binary64, fits, le}
 use Rattle.ieee754.specs.Value.{unit, mag, sign, Good, Is, of_value}
 use Rattle.ieee754.specs.Ops.{plus, minus, plus_pos, minus_pos, plus_neg}
-use Rattle.ieee754.specs.Compare.{lt_is}
+use Rattle.ieee754.specs.Compare.{le_is}
 use Rattle.ieee754.specs.Exact.{Rep, fits_good}
 use Rattle.counting_tree.specs.Radius.{Side}
 
@@ -24,18 +24,18 @@ unit_lowest : unit ≡ 2 ^ 13 * 2 ^ 1061
 unfolding unit
 unit_lowest = refl
 
-not_below : (x y : Float) → Good x → Good y → lt x y ≡ false → plus y + minus x ≤ plus x + minus y
-not_below x y g h e = nltb→le (plus x + minus y) (plus y + minus x) (subst (λ (t : Bool). T (not t)) (sym e ∙ lt_is x y g h) tt)
+ordered : (x y : Float) → Good x → Good y → le x y ≡ true → plus x + minus y ≤ plus y + minus x
+ordered x y g h e = leb-true (plus x + minus y) (plus y + minus x) (sym (le_is x y g h) ∙ e)
 
-pub side_between : (x : Float) → T (fits binary64 x) → lt x lowest ≡ false → lt highest x ≡ false → ne x x ≡ false → Side x
-unfolding lt ne
-side_between nan f a b e = absurd (true≢false e)
-side_between (inf true) f a b e = absurd (true≢false a)
-side_between (inf false) f a b e = absurd (true≢false b)
-side_between (fin s m d) f a b e =
+pub side_between : (x : Float) → fits binary64 x ≡ true → le lowest x ≡ true → le x highest ≡ true → Side x
+unfolding le
+side_between nan f a b = absurd (true≢false (sym a))
+side_between (inf true) f a b = absurd (true≢false (sym a))
+side_between (inf false) f a b = absurd (true≢false (sym b))
+side_between (fin s m d) f a b =
     let x = fin s m d in
-    let g = fits_good x f tt in
-    at x g.0 g.1 (not_below x lowest g.0 lowest_is.good a) (not_below highest x highest_is.good g.0 b) (sign x) refl
+    let g = fits_good x (subst T (sym f) tt) tt in
+    at x g.0 g.1 (ordered lowest x lowest_is.good g.0 a) (ordered x highest g.0 highest_is.good b) (sign x) refl
   where
     negative : (a b c d L : ℕ) → a ≡ L → b ≡ 0 → c ≡ 0 → 0 < L → a + d ≤ c + b → ⊥
     negative a b c d L e f g p h = omega arith

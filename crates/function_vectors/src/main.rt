@@ -4,9 +4,10 @@
 // A box: channels, tolerance, the bits of the slack, of the side and of the centre's four coordinates, the four counts, the answer's first letter.
 #![tactic(auto)]
 
-ghost use Rattle.std.specs.Prelude.{◌+◌, ◌<◌, ◌≤◌, length};
+ghost use Rattle.std.specs.Prelude.{◌≡◌, ◌+◌, ◌<◌, ◌≤◌, ◌^◌};
 
 use counting_tree::{Box, IntersectionType};
+use hexadecimal::{number, signed};
 use std::io;
 
 const LINE: usize = 137;
@@ -19,119 +20,89 @@ const INFINITY: u64 = 9218868437227405312;
 
 const NAN: u64 = 9221120237041090560;
 
-// A hexadecimal digit's value.
-fn digit(b: u8) -> u64 {
-    if b >= b'a' {
-        return (b - b'a') as u64 + 10;
-    }
-    if b >= b'0' {
-        return (b - b'0') as u64;
-    }
-    0
+// What a line calls.
+enum Call {
+    Root,
+    Index,
+    Intersection,
 }
 
-// The number of some digits at a place.
-fn number(text: &[u8], at: usize, digits: usize) -> u64
-    requires { at + digits ≤ length text.now }
-{
-    let mut n: u64 = 0;
-    for i in 0..digits {
-        n = (n << 4) | digit(text[at + i]);
+impl Call {
+    // The call of a line, by its first letter.
+    fn of(line: &[u8; LINE]) -> Option<Call> {
+        match line[0] {
+            b'r' => Some(Call::Root),
+            b'i' => Some(Call::Index),
+            b'b' => Some(Call::Intersection),
+            _ => None,
+        }
     }
-    n
+}
+
+// How many lines there were, and how many of them agree.
+#[derive(Clone, Copy)]
+struct Tally {
+    all: usize,
+    right: usize,
+    ghost within: { right ≤ all },
+}
+
+impl Tally {
+    // No lines.
+    fn new() -> Tally
+        ensures { result.all ≡ 0 }
+    {
+        Tally { all: 0, right: 0 }
+    }
+
+    // One line more.
+    fn add(&mut self, agrees: bool)
+        requires { self.old.all < MAX_LINES }
+        ensures { self.new.all ≡ self.old.all + 1 }
+    {
+        self.all += 1;
+        if agrees {
+            self.right += 1;
+        }
+    }
 }
 
 // The float whose bits the 16 digits at a place are.
-fn float_at(text: &[u8], at: usize) -> f64
-    requires { at + 16 ≤ length text.now }
+fn float_at(line: &[u8; LINE], at: usize) -> f64
+    requires { at < 2 ^ 63 }
 {
-    let b = number(text, at, 16);
-    if b % SIGN_BIT > INFINITY {
-        return 0.0 / 0.0;
+    let bits = number(line, at, 16);
+    if bits % SIGN_BIT > INFINITY {
+        return f64::NAN;
     }
-    f64::from_bits(b)
+    f64::from_bits(bits)
 }
 
 // The bits of x.
 fn bits_of(x: f64) -> u64 {
-    if x != x {
-        return NAN;
-    }
-    f64::to_bits(x)
-}
-
-// The count of the 4 digits at a place, in two's complement.
-fn count_at(text: &[u8], at: usize) -> i16
-    requires { at + 4 ≤ length text.now }
-{
-    let n = number(text, at, 4) % 65536;
-    if n < 32768 {
-        return n as i16;
-    }
-    -1 - ((65535 - n) as i16)
+    if x.is_nan() { NAN } else { x.to_bits() }
 }
 
 // The number of the sign and the 8 digits at a place.
-fn signed_at(text: &[u8], at: usize) -> i64
-    requires { at + 9 ≤ length text.now }
+fn index_at(line: &[u8; LINE], at: usize) -> i64
+    requires { at < LINE }
 {
-    let n = (number(text, at + 1, 8) % 4294967296) as i64;
-    if text[at] == b'-' {
-        return 0 - n;
-    }
-    n
+    let n = number(line, at + 1, 8) as i64;
+    if line[at] == b'-' { -n } else { n }
 }
 
-// 1 where the line is a root and the code gives it.
-fn root_agrees(line: &[u8; LINE]) -> u64
-    ensures { result ≤ 1 }
-{
-    if line[0] != b'r' {
-        return 0;
-    }
+// Whether the code gives the root of a line.
+fn root_agrees(line: &[u8; LINE]) -> bool {
     let root = ieee754::root(float_at(line, 30));
-    one(bits_of(root) == number(line, 47, 16))
+    bits_of(root) == number(line, 47, 16)
 }
 
-// 1 where the line is an index and the code gives it.
-fn index_agrees(line: &[u8; LINE]) -> u64
-    ensures { result ≤ 1 }
-{
-    if line[0] != b'i' {
-        return 0;
-    }
+// Whether the code gives the index of a line, whose side is from 2^-13 to 2^16.
+fn index_agrees(line: &[u8; LINE]) -> bool {
     let side = float_at(line, 30);
-    let c = count_at(line, 8);
-    let expected = signed_at(line, 47);
-    one(index_is(side, c, expected))
-}
-
-// Whether a count's index is the expected one, of a side from 2^-13 to 2^16.
-fn index_is(side: f64, c: i16, expected: i64) -> bool {
-    if side < 0.0001220703125 {
-        return false;
-    }
-    if side > 65536.0 {
-        return false;
-    }
-    if side != side {
-        return false;
-    }
-    counting_tree::grid::cell_index(side, c) == expected
-}
-
-// 1 for true.
-fn one(b: bool) -> u64
-    ensures { result ≤ 1 }
-{
-    if b { 1 } else { 0 }
-}
-
-// 1 where the line is of a kind.
-fn kind_is(line: &[u8; LINE], kind: u8) -> u64
-    ensures { result ≤ 1 }
-{
-    one(line[0] == kind)
+    side >= 0.0001220703125
+        && side <= 65536.0
+        && counting_tree::grid::cell_index(side, signed(line, 8)) == index_at(line, 47)
 }
 
 // The first letter of an answer.
@@ -143,75 +114,56 @@ fn letter(answer: IntersectionType) -> u8 {
     }
 }
 
-// 1 where the line is a box and the code gives its answer.
-fn box_agrees(line: &[u8; LINE]) -> u64
-    ensures { result ≤ 1 }
-{
-    if line[0] != b'b' {
-        return 0;
+// Whether the code gives the answer of a line's box.
+fn intersection_agrees(line: &[u8; LINE]) -> bool {
+    let channels = number(line, 6, 1) as usize;
+    if channels < 1 || channels > 4 {
+        return false;
     }
-    let channels = (number(line, 6, 1) % 16) as usize;
-    if channels < 1 {
-        return 0;
-    }
-    if channels > 4 {
-        return 0;
-    }
-    let t = (number(line, 8, 4) % 65536) as f64;
+    let t = number(line, 8, 4) as f64;
     let appx = hyperparams::appx_tolerance(t, float_at(line, 13));
-    let side = float_at(line, 30);
-    let centre = [
-        float_at(line, 47),
-        float_at(line, 64),
-        float_at(line, 81),
-        float_at(line, 98),
-    ];
+    let cell = Box {
+        centre: [
+            float_at(line, 47),
+            float_at(line, 64),
+            float_at(line, 81),
+            float_at(line, 98),
+        ],
+        side: float_at(line, 30),
+    };
     let q = [
-        count_at(line, 115) as f64,
-        count_at(line, 120) as f64,
-        count_at(line, 125) as f64,
-        count_at(line, 130) as f64,
+        f64::from(signed(line, 115)),
+        f64::from(signed(line, 120)),
+        f64::from(signed(line, 125)),
+        f64::from(signed(line, 130)),
     ];
-    let answer = counting_tree::boxes::determine_intersection(
-        Box { centre, side },
-        q,
-        channels,
-        t,
-        appx,
-    );
-    one(letter(answer) == line[135])
+    let answer = counting_tree::boxes::determine_intersection(cell, q, channels, t, appx);
+    letter(answer) == line[135]
 }
 
-// Writes how many of a kind agree.
-fn report(rt: &impl Print, right: u64, all: u64, what: &[u8]) -> io::Result<()> {
-    print!(rt; "{right} of {all}")?;
-    rt.write_all(what)
+// Writes how many lines of a kind agree.
+fn report(rt: &impl Print, tally: Tally, kind: &str) -> io::Result<()> {
+    let Tally { all, right } = tally;
+    println!(rt; "{right} of {all} {kind} agree")
 }
 
 fn main(rt: HostRuntime) -> io::Result<()> {
     let mut line = [0u8; LINE];
-    let mut roots: u64 = 0;
-    let mut indexes: u64 = 0;
-    let mut boxes: u64 = 0;
-    let mut right_roots: u64 = 0;
-    let mut right_indexes: u64 = 0;
-    let mut right_boxes: u64 = 0;
-    let mut i: usize = 0;
-    while i < MAX_LINES {
-        let n = streams::read_full(&mut rt.stdin(), &mut line)?;
-        if n < LINE {
-            i = MAX_LINES;
-        } else {
-            roots += kind_is(&line, b'r');
-            indexes += kind_is(&line, b'i');
-            boxes += kind_is(&line, b'b');
-            right_roots += root_agrees(&line);
-            right_indexes += index_agrees(&line);
-            right_boxes += box_agrees(&line);
-            i += 1;
+    let mut roots = Tally::new();
+    let mut indexes = Tally::new();
+    let mut boxes = Tally::new();
+    for _ in 0..MAX_LINES {
+        if streams::read_full(&mut rt.stdin(), &mut line)? < LINE {
+            break;
+        }
+        match Call::of(&line) {
+            Some(Call::Root) => roots.add(root_agrees(&line)),
+            Some(Call::Index) => indexes.add(index_agrees(&line)),
+            Some(Call::Intersection) => boxes.add(intersection_agrees(&line)),
+            None => {}
         }
     }
-    report(&rt, right_roots, roots, b" roots agree\n")?;
-    report(&rt, right_indexes, indexes, b" indexes agree\n")?;
-    report(&rt, right_boxes, boxes, b" boxes agree\n")
+    report(&rt, roots, "roots")?;
+    report(&rt, indexes, "indexes")?;
+    report(&rt, boxes, "boxes")
 }

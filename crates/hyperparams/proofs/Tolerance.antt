@@ -1,4 +1,5 @@
 -- What the tests of `whole_tolerance` say: above 0, below 65,536, and equal to its whole part.
+use Rattle.std.specs.Prelude.{None, Some}
 use Rattle.std.proofs.Common.{◌≡◌, ℕ, ◌+◌, ◌-◌, ◌*◌, ◌/◌, ◌^◌, ◌<◌, ◌≤◌, min, Bool, true, false, ◌||◌, T, eqb, ℤ, pos, sym, refl, ap, ◌∙◌, subst, le_trans, le_of_eq, le_of_suc-le-suc, mul-le-mul_right, div-lt_iff_lt-mul, mul-one, mul_right_comm, mul-div_cancel, arith, lit≤, le→leb, eqb→eq, ltb→lt, lt→ltb}
 use mathlib.Core.Bool.{beq, false≢true}
 use native.Mathlib.Nat.{min-eq_left, eq_of_mul-eq-mul_right}
@@ -9,8 +10,8 @@ use lib.Ieee.Bits.{is_true, is_false}
 use lib.Ieee.Exact.{HasValue}
 use lib.Ieee.Positive.{first_pos}
 use lib.Ieee.Fits.{and_i, and_l, eq→eqb, down_pos}
-use Rattle.hyperparams.specs.Params.{good_tolerance, whole_tolerance}
-use Rattle.hyperparams.specs.Tolerance.{whole_or0, Holds, good_holds, holds_good}
+use Rattle.hyperparams.specs.Params.{good_tolerance, whole_tolerance, whole_tolerance_of}
+use Rattle.hyperparams.specs.Tolerance.{Holds, good_holds, holds_good}
 
 abbrev pub above : Float → Bool
 above x = lt (fin false 0 (pos 0)) x
@@ -110,12 +111,12 @@ pub in_float_lem : (x : Float) (r : ℕ) → r ≡ to_unsigned 64 x → Inside x
 unfolding in_float
 in_float_lem x r e i = le→leb r (2 ^ 53) (le_trans (le_of_eq e) (le_trans i.small (lit≤ tt)))
 
-pub found : (x : Float) (r : ℕ) → r ≡ to_unsigned 64 x → Inside x → eq (of_int binary64 (pos r)) x ≡ true → r ≡ whole_or0 x
+pub found : (x : Float) (r : ℕ) → r ≡ to_unsigned 64 x → Inside x → eq (of_int binary64 (pos r)) x ≡ true → Some r ≡ whole_tolerance_of x
 found x r e i t =
     let u : T (uncut x) = rw (← e, t) tt in
     let g = holds_good x (to_unsigned 64 x) (i.holds u) in
-    rw (is_true (good_tolerance x) g.0, g.1) e
+    rw (is_true (good_tolerance x) g.0, g.1) (ap Some e)
 
 -- for a test that each such number passes
-pub none : (x : Float) (test : Bool) → (Passes x → T test) → test ≡ false → 0 ≡ whole_or0 x
+pub none : (x : Float) (test : Bool) → (Passes x → T test) → test ≡ false → None ≡ whole_tolerance_of x
 none x test f e = rw (is_false (good_tolerance x) (not_T (good_tolerance x) (λ g. subst T e (f (passes x (whole_tolerance x) (good_holds x g))))))

@@ -1,8 +1,7 @@
 -- Computed examples of the table: the number returned, 0 for an accepted run.
-use Rattle.std.specs.Prelude.{◌≡◌, ℕ, true, false, [], ◌∷◌, map, pos, negsuc, refl, Float}
+use Rattle.std.specs.Prelude.{◌≡◌, ℕ, true, false, [], ◌∷◌, map, pos, negsuc, refl, Float, Ok}
 use Rattle.std.specs.Float.{nan, inf, fin}
 use Rattle.hyperparams.specs.declared.Params.{Params}
-use Rattle.hyperparams.specs.declared.Checked.TheVariants.{Valid}
 use Rattle.hyperparams.specs.Params.{float, slack_power, checked_of}
 use Rattle.hyperparams.specs.Accepted.{returned}
 
@@ -66,6 +65,6 @@ unfolding checked_of
 most_frames_lem = refl
 
 -- the settings of case (h), and no frames
-no_frames : checked_of (settings 1 3 (float 2) (float 1)) 0 0 0 0 ≡ Valid (record { channels = 1; min_points = 3; tolerance = float 2; appx_tolerance = float 4; t = 2; s = 0 })
+no_frames : checked_of (settings 1 3 (float 2) (float 1)) 0 0 0 0 ≡ Ok (record { channels = 1; min_points = 3; tolerance = float 2; appx_tolerance = float 4; t = 2; s = 0 })
 unfolding checked_of
 no_frames = refl

@@ -1,5 +1,5 @@
 -- Document 01, "Domain", "The table of refusals" and module 1: what is accepted, and the numbers t and s of the settings. Definitions only.
-use Rattle.std.specs.Prelude.{ℕ, zero, suc, ◌+◌, ◌*◌, ◌/◌, ◌%◌, ◌^◌, Bool, cond, not, ◌&&◌, ◌||◌, pos, ◌==◌, nat_le, nat_lt, Float}
+use Rattle.std.specs.Prelude.{ℕ, zero, suc, ◌+◌, ◌*◌, ◌/◌, ◌%◌, ◌^◌, Bool, cond, not, ◌&&◌, ◌||◌, pos, ◌==◌, nat_le, nat_lt, Float, Option, None, Some, Result, Ok, Err, List, codes}
 use Rattle.std.specs.Float.Ieee as Ieee
 use Rattle.std.specs.Float.{binary64}
 use Rattle.std.specs.Float.Ieee.{add, mul, div, le, eq, of_int, to_unsigned, in_unsigned}
@@ -7,8 +7,6 @@ use Rattle.hyperparams.specs.declared.Params.{Params}
 use Rattle.hyperparams.specs.declared.ValidParams.{ValidParams}
 use Rattle.hyperparams.specs.declared.Refusal.{Refusal}
 use Rattle.hyperparams.specs.declared.Refusal.TheVariants.{MinPoints, Tolerance, Slack, ToleranceDomain, SlackDomain, Channels, Points, Results, Work}
-use Rattle.hyperparams.specs.declared.Checked.{Checked}
-use Rattle.hyperparams.specs.declared.Checked.TheVariants.{Valid, Refused}
 
 -- "0 to 4,096 frames"
 abbrev pub max_frames : ℕ
@@ -31,6 +29,10 @@ unfoldable pub whole_tolerance : Float → ℕ
 unfolding to_unsigned
 whole_tolerance x = to_unsigned 16 x
 
+-- the number that x holds, if it holds one
+abbrev pub whole_tolerance_of : Float → Option ℕ
+whole_tolerance_of x = cond (good_tolerance x) (Some (whole_tolerance x)) None
+
 -- "1 divided by 2 to the power s"
 unfoldable pub slack_at : ℕ → Float
 unfolding div of_int
@@ -45,6 +47,10 @@ slack_from (suc k) s x = let r = slack_from k (suc s) x in cond (eq x (slack_at 
 unfoldable pub slack_power : Float → ℕ
 unfolding eq slack_at
 slack_power x = slack_from (suc max_power) 0 x
+
+-- the s of the slack, if it has one
+abbrev pub slack_power_of : Float → Option ℕ
+slack_power_of x = cond (nat_le (slack_power x) max_power) (Some (slack_power x)) None
 
 -- "Extended tolerance = t × (1 + slack)"
 unfoldable pub appx_tolerance_of : Float → Float → Float
@@ -70,23 +76,27 @@ levels s = 1 + s
 abbrev pub work_words : ℕ → ℕ → ℕ
 work_words frames s = frames * (16 + 4 * (levels s + 1))
 
+-- the table's verdict: the settings that passed, or why the call is refused
+abbrev pub Verdict : Type 0
+Verdict = Result ValidParams Refusal
+
 -- "The table of refusals (first that applies, top down)", on the settings and the lengths of the slices; "A run is accepted if no refusal's condition holds."
-unfoldable pub checked_of : Params → (points labels kinds work : ℕ) → Checked
+unfoldable pub checked_of : Params → (points labels kinds work : ℕ) → Verdict
 unfolding good_tolerance slack_power appx_tolerance_of whole_tolerance le of_int
 checked_of p points labels kinds work =
     let d = p.channels in
     let frames = points / d in
     let s = slack_power p.slack in
-    cond (nat_le p.min_points 1) (Refused MinPoints)
-    (cond (le p.tolerance (float 0)) (Refused Tolerance)
-    (cond (le p.slack (float 0)) (Refused Slack)
-    (cond (not (good_tolerance p.tolerance)) (Refused ToleranceDomain)
-    (cond (nat_lt max_power s) (Refused SlackDomain)
-    (cond (not (nat_le 1 d && nat_le d 4)) (Refused Channels)
-    (cond (not (points % d == 0) || nat_lt max_frames frames) (Refused Points)
-    (cond (nat_lt labels frames || nat_lt kinds frames) (Refused Results)
-    (cond (nat_lt work (work_words frames s)) (Refused Work)
-    (Valid (valid_of p))))))))))
+    cond (nat_le p.min_points 1) (Err MinPoints)
+    (cond (le p.tolerance (float 0)) (Err Tolerance)
+    (cond (le p.slack (float 0)) (Err Slack)
+    (cond (not (good_tolerance p.tolerance)) (Err ToleranceDomain)
+    (cond (nat_lt max_power s) (Err SlackDomain)
+    (cond (not (nat_le 1 d && nat_le d 4)) (Err Channels)
+    (cond (not (points % d == 0) || nat_lt max_frames frames) (Err Points)
+    (cond (nat_lt labels frames || nat_lt kinds frames) (Err Results)
+    (cond (nat_lt work (work_words frames s)) (Err Work)
+    (Ok (valid_of p))))))))))
 
 -- the table's numbers
 abbrev pub number_of : Refusal → ℕ
@@ -99,3 +109,15 @@ number_of Channels = 6
 number_of Points = 7
 number_of Results = 8
 number_of Work = 9
+
+-- what is printed of a refusal; the first three are the source's words
+abbrev pub text_of : Refusal → List ℕ
+text_of MinPoints = codes "min_points must be greater than 1"
+text_of Tolerance = codes "tolerance must be greater than 0"
+text_of Slack = codes "slack must be greater than 0"
+text_of ToleranceDomain = codes "tolerance must be a whole number from 1 to 65535"
+text_of SlackDomain = codes "slack must be 1 divided by 2 to the power s, s from 0 to 10"
+text_of Channels = codes "a frame must have 1 to 4 channels"
+text_of Points = codes "points must be whole frames, at most 4096"
+text_of Results = codes "labels and kinds must have room for every frame"
+text_of Work = codes "work must have frames * (16 + 4 * (s + 2)) words"

@@ -1,17 +1,14 @@
 -- Document 01, "Tolerance t: an f64 holding a whole number, 1 to 65,535": a tolerance is good exactly if it holds such a number, and `whole_tolerance` is that number.
-use Rattle.std.specs.Prelude.{◌≡◌, ℕ, ◌+◌, ◌*◌, ◌/◌, ◌%◌, ◌^◌, ◌≤◌, min, Bool, true, false, cond, ◌&&◌, T, ◌==◌, ◌≢◌, nat_le, nat_lt, refl, Float}
-use Rattle.std.proofs.Common.{sym, ap, ◌∙◌, suc-le-suc, le_trans, le_of_eq, le_of_suc-le-suc, mul-one, add-zero, div-add-mod', mul-div_cancel, arith, ltb→lt, eqb→eq, le→leb, lt→ltb, lit≤}
+use Rattle.std.specs.Prelude.{◌≡◌, ℕ, ◌+◌, ◌*◌, ◌/◌, ◌%◌, ◌^◌, ◌≤◌, min, Bool, true, false, cond, ◌&&◌, T, ◌==◌, nat_le, nat_lt, refl, Float, None, Some}
+use Rattle.std.proofs.Common.{sym, ap, ◌∙◌, suc-le-suc, le_trans, le_of_eq, le_of_suc-le-suc, mul-one, add-zero, div-add-mod', mul-div_cancel, ltb→lt, eqb→eq, le→leb, lt→ltb, lit≤}
 use Rattle.std.proofs.lemmas.Bool.{false≢true}
+use Rattle.std.proofs.lemmas.Option.{none-some, cond_some}
 use Rattle.std.proofs.Math.Nat.{mul-mod_left, min-eq_left}
 use Rattle.std.specs.Float.{nan, inf, fin, binary64}
 use Rattle.std.specs.Float.Ieee.{up, down, whole}
 use Rattle.std.specs.Float.Ieee.Exact.{HasValue}
 use Rattle.std.specs.Float.Ieee.Fits.{and_i, and_l, and_r, down_pos}
-use Rattle.hyperparams.specs.Params.{good_tolerance, whole_tolerance}
-
--- the number that x holds, 0 where it holds none
-abbrev pub whole_or0 : Float → ℕ
-whole_or0 x = cond (good_tolerance x) (whole_tolerance x) 0
+use Rattle.hyperparams.specs.Params.{good_tolerance, whole_tolerance, whole_tolerance_of}
 
 -- x is the whole number t, and t is in the domain
 pub record Holds (x : Float) (t : ℕ) : Type 0 where
@@ -53,17 +50,13 @@ holds_good (fin false m e) t h =
       rw (q, k),
     )
 
--- the number is 0 exactly where the tolerance is not good
-pub some_good : (x : Float) → (whole_or0 x ≢ 0) → good_tolerance x ≡ true
-some_good x f = go (good_tolerance x) f
-  where
-    go : (b : Bool) → (cond b (whole_tolerance x) 0 ≢ 0) → b ≡ true
-    go true f = refl
-    go false f = absurd (f refl)
+-- there is a number exactly where the tolerance is good
+pub some_good : (x : Float) (t : ℕ) → whole_tolerance_of x ≡ Some t → (good_tolerance x ≡ true) × (whole_tolerance x ≡ t)
+some_good x t e = cond_some (good_tolerance x) (whole_tolerance x) t e
 
-pub none_good : (x : Float) → whole_or0 x ≡ 0 → good_tolerance x ≡ false
-none_good x e = go (good_tolerance x) (good_holds x) e
-  where
-    go : (b : Bool) → (T b → Holds x (whole_tolerance x)) → cond b (whole_tolerance x) 0 ≡ 0 → b ≡ false
-    go true h e = let l = (h tt).low in absurd (omega arith)
-    go false h e = refl
+pub cond_none : (b : Bool) (n : ℕ) → cond b (Some n) None ≡ None → b ≡ false
+cond_none true n e = absurd (none-some n (sym e))
+cond_none false n e = refl
+
+pub none_good : (x : Float) → whole_tolerance_of x ≡ None → good_tolerance x ≡ false
+none_good x e = cond_none (good_tolerance x) (whole_tolerance x) e

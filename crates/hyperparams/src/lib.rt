@@ -1,9 +1,11 @@
 // The settings of a run, and the table of refusals.
 #![tactic(auto)]
 
-ghost use Rattle.std.specs.Prelude.{◌≡◌, ◌≤◌};
-ghost use Rattle.hyperparams.specs.Params.{slack_power, appx_tolerance_of, work_words, max_frames, max_power, checked_of, number_of};
-ghost use Rattle.hyperparams.specs.Tolerance.{whole_or0};
+ghost use Rattle.std.specs.Prelude.{◌≡◌, ◌≤◌, Some};
+ghost use Rattle.hyperparams.specs.Params.{whole_tolerance_of, slack_power_of, appx_tolerance_of, work_words, max_frames, max_power, checked_of, number_of, text_of};
+
+use std::error::Error;
+use std::fmt;
 
 // "A frame is 1 to 4 channels", "0 to 4,096 frames", "s from 0 to 10"
 pub const MAX_CHANNELS: usize = 4;
@@ -16,7 +18,7 @@ pub const MAX_POWER: usize = 10;
 const TOLERANCE_END: f64 = 65536.0;
 
 // The settings as the caller gives them (AppxDbscanParams of the source).
-#[derive(Clone, Copy)]
+#[derive(Clone, Copy, Debug, PartialEq)]
 pub struct Params {
     pub channels: usize,
     pub min_points: usize,
@@ -25,7 +27,7 @@ pub struct Params {
 }
 
 // Settings that passed the table: t is the tolerance as a whole number, and the slack is 1 / 2^s (AppxDbscanValidParams of the source).
-#[derive(Clone, Copy)]
+#[derive(Clone, Copy, Debug, PartialEq)]
 pub struct ValidParams {
     pub channels: usize,
     pub min_points: usize,
@@ -36,7 +38,7 @@ pub struct ValidParams {
 }
 
 // Why a call is refused: rows 1 to 9 of the table, in its order (AppxDbscanParamsError of the source has the first three).
-#[derive(Clone, Copy)]
+#[derive(Clone, Copy, Debug, PartialEq, Eq)]
 pub enum Refusal {
     MinPoints,
     Tolerance,
@@ -49,56 +51,71 @@ pub enum Refusal {
     Work,
 }
 
-#[derive(Clone, Copy)]
-pub enum Checked {
-    Valid(ValidParams),
-    Refused(Refusal),
-}
-
 // The numbers of the table.
-pub fn number(refusal: Refusal) -> u8
-    ensures { result ≡ number_of refusal }
-{
-    match refusal {
-        Refusal::MinPoints => 1,
-        Refusal::Tolerance => 2,
-        Refusal::Slack => 3,
-        Refusal::ToleranceDomain => 4,
-        Refusal::SlackDomain => 5,
-        Refusal::Channels => 6,
-        Refusal::Points => 7,
-        Refusal::Results => 8,
-        Refusal::Work => 9,
-    }
-}
+impl From<Refusal> for u8 {
+    ghost from_gives = { λ refusal n. n ≡ number_of refusal };
 
-// "Tolerance t: an f64 holding a whole number, 1 to 65,535": that number, 0 where the tolerance holds none.
-fn whole_tolerance(tolerance: f64) -> u64
-    ensures { result ≡ whole_or0 tolerance }
-{
-    if tolerance > 0.0 {
-        if tolerance < TOLERANCE_END {
-            let t = std::num::truncating_f64_to_u64(tolerance);
-            if t as f64 == tolerance {
-                return t;
-            }
+    fn from(refusal: Refusal) -> u8 {
+        match refusal {
+            Refusal::MinPoints => 1,
+            Refusal::Tolerance => 2,
+            Refusal::Slack => 3,
+            Refusal::ToleranceDomain => 4,
+            Refusal::SlackDomain => 5,
+            Refusal::Channels => 6,
+            Refusal::Points => 7,
+            Refusal::Results => 8,
+            Refusal::Work => 9,
         }
     }
-    0
 }
 
-// "The slack is an f64 equal to 1 divided by 2 to the power s, s from 0 to 10": that s, 11 where there is none.
-fn slack_power(slack: f64) -> usize
-    ensures { result ≡ slack_power slack }
+// What must hold of the row's settings or lengths: of the first three rows in the words of the source.
+impl fmt::Display for Refusal {
+    ghost output = { λ refusal. Some (text_of refusal) };
+
+    fn fmt<W: fmt::Write>(&self, f: &mut fmt::Formatter<W>) -> fmt::Result {
+        f.write_str(match self {
+            Refusal::MinPoints => "min_points must be greater than 1",
+            Refusal::Tolerance => "tolerance must be greater than 0",
+            Refusal::Slack => "slack must be greater than 0",
+            Refusal::ToleranceDomain => "tolerance must be a whole number from 1 to 65535",
+            Refusal::SlackDomain => "slack must be 1 divided by 2 to the power s, s from 0 to 10",
+            Refusal::Channels => "a frame must have 1 to 4 channels",
+            Refusal::Points => "points must be whole frames, at most 4096",
+            Refusal::Results => "labels and kinds must have room for every frame",
+            Refusal::Work => "work must have frames * (16 + 4 * (s + 2)) words",
+        })
+    }
+}
+
+impl Error for Refusal {}
+
+// "Tolerance t: an f64 holding a whole number, 1 to 65,535": that number, if the tolerance holds one.
+fn whole_tolerance(tolerance: f64) -> Option<u64>
+    ensures { result ≡ whole_tolerance_of tolerance }
+{
+    if tolerance > 0.0 && tolerance < TOLERANCE_END {
+        let t = std::num::truncating_f64_to_u64(tolerance);
+        if t as f64 == tolerance {
+            return Some(t);
+        }
+    }
+    None
+}
+
+// "The slack is an f64 equal to 1 divided by 2 to the power s, s from 0 to 10": that s, if there is one.
+fn slack_power(slack: f64) -> Option<usize>
+    ensures { result ≡ slack_power_of slack }
 {
     let mut power: u64 = 1;
-    for s in 0..MAX_POWER + 1 {
+    for s in 0..=MAX_POWER {
         if slack == 1.0 / (power as f64) {
-            return s;
+            return Some(s);
         }
-        power = power * 2;
+        power *= 2;
     }
-    MAX_POWER + 1
+    None
 }
 
 // "Extended tolerance = t × (1 + slack)"
@@ -119,47 +136,49 @@ pub fn work_words(frames: usize, s: usize) -> usize
     frames * (16 + 4 * (levels + 1))
 }
 
-// "The table of refusals (first that applies, top down)", rows 1 to 9, on the settings and the lengths of the slices.
-pub fn check(p: Params, points: usize, labels: usize, kinds: usize, work: usize) -> Checked
-    ensures { result ≡ checked_of p points labels kinds work }
-{
-    if p.min_points <= 1 {
-        return Checked::Refused(Refusal::MinPoints);
+impl Params {
+    // "The table of refusals (first that applies, top down)", rows 1 to 9, on the settings and the lengths of the slices.
+    pub fn check(
+        self,
+        points: usize,
+        labels: usize,
+        kinds: usize,
+        work: usize,
+    ) -> Result<ValidParams, Refusal>
+        ensures { result ≡ checked_of self points labels kinds work }
+    {
+        if self.min_points <= 1 {
+            return Err(Refusal::MinPoints);
+        }
+        if self.tolerance <= 0.0 {
+            return Err(Refusal::Tolerance);
+        }
+        if self.slack <= 0.0 {
+            return Err(Refusal::Slack);
+        }
+        let t = whole_tolerance(self.tolerance).ok_or(Refusal::ToleranceDomain)?;
+        let s = slack_power(self.slack).ok_or(Refusal::SlackDomain)?;
+        let channels = self.channels;
+        if channels < 1 || channels > MAX_CHANNELS {
+            return Err(Refusal::Channels);
+        }
+        let frames = points / channels;
+        if points % channels != 0 || frames > MAX_FRAMES {
+            return Err(Refusal::Points);
+        }
+        if labels < frames || kinds < frames {
+            return Err(Refusal::Results);
+        }
+        if work < work_words(frames, s) {
+            return Err(Refusal::Work);
+        }
+        Ok(ValidParams {
+            channels,
+            min_points: self.min_points,
+            tolerance: self.tolerance,
+            appx_tolerance: appx_tolerance(self.tolerance, self.slack),
+            t,
+            s,
+        })
     }
-    if p.tolerance <= 0.0 {
-        return Checked::Refused(Refusal::Tolerance);
-    }
-    if p.slack <= 0.0 {
-        return Checked::Refused(Refusal::Slack);
-    }
-    let t = whole_tolerance(p.tolerance);
-    if t == 0 {
-        return Checked::Refused(Refusal::ToleranceDomain);
-    }
-    let s = slack_power(p.slack);
-    if s > MAX_POWER {
-        return Checked::Refused(Refusal::SlackDomain);
-    }
-    let channels = p.channels;
-    if channels < 1 || channels > MAX_CHANNELS {
-        return Checked::Refused(Refusal::Channels);
-    }
-    let frames = points / channels;
-    if points % channels != 0 || frames > MAX_FRAMES {
-        return Checked::Refused(Refusal::Points);
-    }
-    if labels < frames || kinds < frames {
-        return Checked::Refused(Refusal::Results);
-    }
-    if work < work_words(frames, s) {
-        return Checked::Refused(Refusal::Work);
-    }
-    Checked::Valid(ValidParams {
-        channels,
-        min_points: p.min_points,
-        tolerance: p.tolerance,
-        appx_tolerance: appx_tolerance(p.tolerance, p.slack),
-        t,
-        s,
-    })
 }

@@ -1,259 +1,241 @@
--- Building in one slice: what the calls of a node and of its groups need, and what they leave.
-use mathlib.Core.Path.{◌≡◌, refl, sym, ap, ap₂, ◌∙◌}
+-- Building a node: its children are built one after the other, behind its own four words.
+use mathlib.Core.Path.{◌≡◌, refl, sym, ap, ◌∙◌}
 use mathlib.Core.Logic.{inl, inr}
 use mathlib.Core.List.{List, [], ◌∷◌, ◌++◌}
-use Prim.Native.Nat.{ℕ, ◌+◌, ◌-◌, ◌*◌, ◌/◌, ◌<◌, ◌≤◌}
+use Prim.Native.Nat.{ℕ, ◌+◌, ◌-◌, ◌*◌, ◌<◌, ◌≤◌}
 use native.Mathlib.Omega.{arith}
-use lib.ListN.{length, get_or, length-append}
+use borrow.Rule.Slice.PartMut.{put_mid}
+use lib.ListN.{length, drop, get_or, length-append}
+use Rattle.std.proofs.Common.{drop-drop}
+use Rattle.std.proofs.lemmas.List.{take_rest}
 use Rattle.lists.specs.Lists.{head_or, keep, lose, Below, groups}
-use Rattle.lists.specs.Words.{over, part, Clear}
-use Rattle.lists.specs.ListLaws.{head_at}
+use Rattle.lists.specs.Words.{over, part}
+use Rattle.lists.specs.ListLaws.{head_at, at_in}
 use Rattle.lists.specs.CountLaws.{parts_length}
 use Rattle.lists.specs.OrderLaws.{lose_below}
 use Rattle.lists.proofs.GroupLaws.{groups_nil, groups_cons, group_below}
-use Rattle.lists.proofs.WordLaws.{over_length, over_nil, over_self, over_front, over_back, over_next, over_before, over_apart, over_cons}
-use Rattle.lists.proofs.PartLaws.{part_length, part_at, part_first, part_under, part_front, part_back, clear_before, clear_after}
+use Rattle.lists.proofs.WordLaws.{over_length, over_nil, over_self, over_front, over_next, over_before, over_cons, put_over}
+use Rattle.lists.proofs.PartLaws.{part_length, part_first, part_above, part_front, part_back}
+use Rattle.hyperparams.specs.Params.{max_frames}
 use Rattle.tree_structure.specs.Encode.{Same, size, encode, encode_length, trees_length}
-use Rattle.tree_structure.specs.Work.{max_nodes, arrange, group_nodes, group_frames, group_words, Room, NodeRoom, GroupsRoom, Built, BuiltNode, BuiltGroups}
-use Rattle.tree_structure.proofs.Levels.{last, inner, size_pos, arrange_length, frames_length}
+use Rattle.tree_structure.specs.Work.{max_nodes, Room}
+use Rattle.tree_structure.proofs.Levels.{group_nodes, group_words, last, inner, size_pos}
 
--- the words are inside the slice
-module _ {n : ℕ} {w : List ℕ} {scratch lo m at nodes : ℕ} (can : Room n w scratch lo m at nodes) where
-  pub frames_fit : lo + m ≤ length w
-  frames_fit = omega (arith, can.before, can.after, can.room)
+-- the words from a on
+abbrev pub tail : List ℕ → ℕ → List ℕ
+tail xs a = part xs a (length xs - a)
 
-  pub scratch_fit : scratch + m ≤ length w
-  scratch_fit = omega (arith, can.after, can.room)
+-- words laid over the front of what is lent from a on
+laid_after : (ws : List ℕ) (a : ℕ) (us zs : List ℕ) → zs ≡ over (tail ws a) 0 us → a + length us ≤ length ws → put_mid a (length ws - a) ws zs ≡ over ws a us
+laid_after ws a us zs e h =
+    let n : ℕ = length ws - a in
+    let m : ℕ = length us in
+    let b : ℕ = a + m in
+    let D : List ℕ = drop (0 + m) (tail ws a) in
+    let l : length (tail ws a) ≡ n = part_length ws a n (omega arith) in
+    let z : 0 + m ≡ m = omega arith in
+    let d : D ≡ tail ws b = rw z (ap (drop m) (take_rest ws a) ∙ drop-drop m a ws ∙ sym (take_rest ws b)) in
+    let dl : length D ≡ length ws - b = ap length d ∙ part_length ws b (length ws - b) (omega arith) in
+    ap (put_mid a n ws) e
+    ∙ put_over ws a n (us ++ D) (length-append us D ∙ omega (arith, dl))
+    ∙ sym (over_next ws a b us D refl (omega (arith, dl)))
+    ∙ over_self (over ws a us) b (length ws - b) D (part_above ws b (length ws - b) a us (omega arith) (omega arith) ∙ sym d) (omega (arith, over_length ws a us h))
 
--- ---- a node
-module _ {s : Same} {n : ℕ} {w : List ℕ} {scratch lo m at k l : ℕ} (given : NodeRoom s n w scratch lo m at k l) where
-  abbrev can : Room n w scratch lo m at (size s k l (part w lo m))
-  can = given.here
+-- the loop over the children of a node, which are of level l, k levels above the last: with the trees of the members from `from` on, `done` nodes and their words make the whole
+pub record Building (s : Same) (n k l : ℕ) (xs₀ ws₀ xs scratch ws : List ℕ) (from done : ℕ) : Type 0 where
+  pub long : length xs ≡ length xs₀
+  pub few : length xs₀ ≤ max_frames
+  pub sorting : length xs₀ ≤ length scratch
+  pub most : 1 + group_nodes s k l xs₀ ≤ max_nodes
+  pub room : 4 * (1 + group_nodes s k l xs₀) ≤ length ws
+  pub below : Below n (tail xs from)
+  pub nodes : done + group_nodes s k l (tail xs from) ≡ 1 + group_nodes s k l xs₀
+  pub words : over ws (4 * done) (group_words s k l (tail xs from)) ≡ over ws₀ 4 (group_words s k l xs₀)
 
-  abbrev xs : List ℕ
-  xs = part w lo m
+pub building_start : {s : Same} {n k l : ℕ} {xs scratch ws : List ℕ} → Room s n k l xs scratch ws → (k ≡ 0 → ⊥) → Building s n (k - 1) (l + 1) xs ws xs scratch ws 0 1
+building_start {s} {n} {k} {l} {xs} {scratch} {ws} r h =
+    let e = (inner s k l xs h).nodes in
+    let a : tail xs 0 ≡ xs = take_rest xs 0 in
+    record {
+      long = refl;
+      few = r.few;
+      sorting = r.sorting;
+      most = rw e at r.most;
+      room = rw e at r.room;
+      below = rw a r.below;
+      nodes = rw a refl;
+      words = rw a refl;
+    }
 
-  pub node_room : at + 4 ≤ length w
-  node_room = omega (arith, can.room, size_pos s k l xs)
+module _ {s : Same} {n k l : ℕ} {xs₀ ws₀ xs scratch ws : List ℕ} {from done : ℕ} (c : Building s n k l xs₀ ws₀ xs scratch ws from done) where
+  -- all of them are built
+  module _ (all : length xs₀ ≤ from) where
+    nothing : tail xs from ≡ []
+    nothing = let e : length xs - from ≡ 0 = omega (arith, c.long) in ap (part xs from) e
 
-  xs_length : length xs ≡ m
-  xs_length = part_length w lo m (frames_fit can)
+    none : groups (s l) (tail xs from) ≡ []
+    none = ap (groups (s l)) nothing ∙ groups_nil (s l)
 
-  xs_first : head_or 0 xs ≡ get_or w lo 0
-  xs_first =
-      let e : lo + 0 ≡ lo = omega arith in
-      sym (head_at 0 xs) ∙ part_at w lo m 0 given.some ∙ ap (λ (i : ℕ). get_or w i 0) e
+    built_nodes : done ≡ 1 + group_nodes s k l xs₀
+    built_nodes = omega (arith, rw none at c.nodes)
 
-  pub node_last : (x : ℕ) (w' : List ℕ) → k ≡ 0 → x ≡ get_or w lo 0 → w' ≡ over w at (m ∷ 1 ∷ x ∷ 0 ∷ []) → BuiltNode s w lo m at k l w' (at + 4)
-  node_last x w' e f q =
-      let z = last s k l xs e in
-      let u : m ∷ 1 ∷ x ∷ 0 ∷ [] ≡ encode s k l xs = sym (z.words ∙ simp (xs_length, xs_first, f)) in
-      record {
-        next = ap (λ (y : List ℕ). at + length y) u;
-        work = q ∙ ap₂ (λ (y u : List ℕ). over y at u) (sym (ap (over w lo) z.frames ∙ over_self w lo m xs refl (frames_fit can))) u;
+    built_words : ws ≡ over ws₀ 4 (group_words s k l xs₀)
+    built_words = sym (over_nil ws (4 * done)) ∙ rw none at c.words
+
+  -- the next child
+  module _ (within : from < length xs₀) where
+    more : from < length xs
+    more = omega (arith, c.long)
+
+    abbrev others : List ℕ
+    others = tail xs (from + 1)
+
+    cut : tail xs from ≡ get_or xs from 0 ∷ others
+    cut = let e : length xs - from ≡ length xs - (from + 1) + 1 = omega (arith, more) in ap (part xs from) e ∙ part_first xs from (length xs - (from + 1)) more
+
+    pub first_below : get_or xs from 0 < n
+    first_below = c.below (get_or xs from 0) (rw cut (inl refl))
+
+    pub others_below : Below n others
+    others_below x i = c.below x (rw cut (inr i))
+
+    -- after the partition
+    module _ {x kept : ℕ} {p : List ℕ} (ex : x ≡ get_or xs from 0) (ek : kept ≡ length (keep (s l x) others)) (ep : p ≡ keep (s l x) others ++ lose (s l x) others) where
+      abbrev K : List ℕ
+      K = x ∷ keep (s l x) others
+
+      abbrev L : List ℕ
+      L = lose (s l x) others
+
+      abbrev to : ℕ
+      to = from + 1 + kept
+
+      abbrev xs₁ : List ℕ
+      xs₁ = put_mid (from + 1) (length xs - (from + 1)) xs p
+
+      abbrev child : List ℕ
+      child = part xs₁ from (to - from)
+
+      others_length : length others ≡ length xs - (from + 1)
+      others_length = part_length xs (from + 1) (length xs - (from + 1)) (omega (arith, more))
+
+      rest_is : 1 + kept + length L ≡ length xs - from
+      rest_is = omega (arith, more, parts_length (s l x) others, others_length)
+
+      gs : groups (s l) (tail xs from) ≡ K ∷ groups (s l) L
+      gs = ap (groups (s l)) (cut ∙ ap (λ (y : ℕ). y ∷ others) (sym ex)) ∙ groups_cons (s l) x others
+
+      xs₁_is : xs₁ ≡ over xs from (K ++ L)
+      xs₁_is =
+          ap (put_mid (from + 1) (length xs - (from + 1)) xs) ep
+          ∙ put_over xs (from + 1) (length xs - (from + 1)) (keep (s l x) others ++ L) (length-append (keep (s l x) others) L ∙ parts_length (s l x) others ∙ others_length)
+          ∙ over_cons xs from (keep (s l x) others ++ L) more
+          ∙ ap (λ (y : ℕ). over xs from (y ∷ (keep (s l x) others ++ L))) (sym ex)
+
+      child_is : child ≡ K
+      child_is = ap (λ (z : List ℕ). part z from (to - from)) xs₁_is ∙ part_front xs from (to - from) K L (omega (arith, more)) (omega arith)
+
+      nodes_are : group_nodes s k l (tail xs from) ≡ size s k l K + group_nodes s k l L
+      nodes_are = rw gs
+
+      words_are : group_words s k l (tail xs from) ≡ encode s k l K ++ group_words s k l L
+      words_are = rw gs
+
+      pub child_can : {scratch' : List ℕ} → length scratch' ≡ length scratch → Room s n k l child scratch' (tail ws (4 * done))
+      child_can e = rw child_is record {
+        some = omega arith;
+        few = omega (arith, rest_is, c.few, c.long);
+        below = group_below n (s l) K (tail xs from) (rw gs (inl refl)) c.below;
+        sorting = omega (arith, rest_is, c.sorting, c.long, e);
+        most = omega (arith, nodes_are, c.nodes, c.most);
+        room = omega (arith, nodes_are, c.nodes, c.room, part_length ws (4 * done) (length ws - 4 * done) (omega (arith, c.nodes, c.room)));
       }
 
-  module _ (more : k ≡ 0 → ⊥) where
-    pub below_can : GroupsRoom s n w scratch lo m (at + 4) (k - 1) (l + 1)
-    below_can =
-        let z = inner s k l xs more in
-        record {
-          here = record {
-            few = can.few;
-            before = can.before;
-            after = omega (arith, can.after);
-            below = can.below;
-            clear = can.clear;
-            room = omega (arith, can.room, z.nodes);
-            most = omega (arith, can.most, z.nodes);
-          };
+      -- after its tree
+      module _ (ys zs : List ℕ) {r : ℕ} (ly : length ys ≡ length child) (er : r ≡ size s k l child) (ez : zs ≡ over (tail ws (4 * done)) 0 (encode s k l child)) where
+        abbrev E : List ℕ
+        E = encode s k l K
+
+        abbrev xs₂ : List ℕ
+        xs₂ = put_mid from (to - from) xs₁ ys
+
+        abbrev ws₂ : List ℕ
+        ws₂ = put_mid (4 * done) (length ws - 4 * done) ws zs
+
+        size_is : r ≡ size s k l K
+        size_is = er ∙ ap (size s k l) child_is
+
+        ys_length : length ys ≡ 1 + kept
+        ys_length = ly ∙ ap length child_is ∙ omega arith
+
+        xs₂_is : xs₂ ≡ over xs from (ys ++ L)
+        xs₂_is =
+            put_over xs₁ from (to - from) ys (omega (arith, ys_length))
+            ∙ ap (λ (z : List ℕ). over z from ys) xs₁_is
+            ∙ over_front xs from K L ys (omega (arith, more)) (omega (arith, ys_length))
+
+        xs₂_length : length xs₂ ≡ length xs
+        xs₂_length = ap length xs₂_is ∙ over_length xs from (ys ++ L) (omega (arith, length-append ys L, ys_length, rest_is))
+
+        rest : tail xs₂ to ≡ L
+        rest =
+            ap (λ (m : ℕ). part xs₂ to (m - to)) xs₂_length
+            ∙ ap (λ (z : List ℕ). part z to (length xs - to)) xs₂_is
+            ∙ part_back xs from to (length xs - to) ys L (omega (arith, more)) (omega (arith, ys_length)) (omega (arith, rest_is))
+
+        ws₂_is : ws₂ ≡ over ws (4 * done) E
+        ws₂_is = laid_after ws (4 * done) E zs (ez ∙ ap (λ (z : List ℕ). over (tail ws (4 * done)) 0 (encode s k l z)) child_is) (omega (arith, encode_length s k l K, nodes_are, c.nodes, c.room))
+
+        ws₂_length : length ws₂ ≡ length ws
+        ws₂_length = ap length ws₂_is ∙ over_length ws (4 * done) E (omega (arith, encode_length s k l K, nodes_are, c.nodes, c.room))
+
+        pub sum_fits : done + r ≤ max_nodes
+        sum_fits = omega (arith, size_is, nodes_are, c.nodes, c.most)
+
+        pub building_step : {scratch' : List ℕ} → length scratch' ≡ length scratch → Building s n k l xs₀ ws₀ xs₂ scratch' ws₂ to (done + r)
+        building_step e = record {
+          long = xs₂_length ∙ c.long;
+          few = c.few;
+          sorting = omega (arith, c.sorting, e);
+          most = c.most;
+          room = omega (arith, ws₂_length, c.room);
+          below = rw rest (lose_below n (s l x) others others_below);
+          nodes = rw rest (omega (arith, nodes_are, size_is, c.nodes));
+          words = rw rest (
+              ap (λ (z : List ℕ). over z (4 * (done + r)) (group_words s k l L)) ws₂_is
+              ∙ over_next ws (4 * done) (4 * (done + r)) E (group_words s k l L) (omega (arith, encode_length s k l K, size_is)) (omega (arith, trees_length s k l (groups (s l) L), size_is, nodes_are, c.nodes, c.room))
+              ∙ ap (over ws (4 * done)) (sym words_are)
+              ∙ c.words
+              );
         }
 
-    module _ {next : ℕ} {w' : List ℕ} (b : BuiltGroups s w lo m (at + 4) (k - 1) (l + 1) w' next) where
-      pub node_after : at ≤ next
-      node_after = omega (arith, b.next)
+-- the node's own words before those of its children
+module _ {s : Same} {n k l : ℕ} {xs scratch ws : List ℕ} (r : Room s n k l xs scratch ws) {x : ℕ} (ex : x ≡ get_or xs 0 0) where
+  first_is : x ≡ head_or 0 xs
+  first_is = ex ∙ head_at 0 xs
 
-      node_size : (next - at) / 4 ≡ size s k l xs
-      node_size = omega (arith, b.next, trees_length s (k - 1) (l + 1) (groups (s (l + 1)) xs), (inner s k l xs more).nodes)
+  pub first_low : x < n
+  first_low = rw ex (r.below (get_or xs 0 0) (at_in 0 xs 0 r.some))
 
-      pub node_most : (next - at) / 4 ≤ max_nodes
-      node_most = omega (arith, node_size, can.most)
+  pub own_room : 4 ≤ length ws
+  own_room = omega (arith, r.room, size_pos s k l xs)
 
-      pub node_more : (x : ℕ) (w'' : List ℕ) → x ≡ get_or w lo 0 → w'' ≡ over w' at (m ∷ ((next - at) / 4) ∷ x ∷ 0 ∷ []) → BuiltNode s w lo m at k l w'' next
-      node_more x w'' f q =
-          let z = inner s k l xs more in
-          let G : List ℕ = group_words s (k - 1) (l + 1) xs in
-          let H : List ℕ = m ∷ ((next - at) / 4) ∷ x ∷ 0 ∷ [] in
-          let Y : List ℕ = over w lo (group_frames s (k - 1) (l + 1) xs) in
-          let y : length Y ≡ length w = over_length w lo (group_frames s (k - 1) (l + 1) xs) (omega (arith, frames_length s (k - 1) (l + 1) xs, xs_length, frames_fit can)) in
-          let u : H ++ G ≡ encode s k l xs = sym (z.words ∙ simp (xs_length, xs_first, f, node_size)) in
-          record {
-            next = omega (arith, b.next, ap length u);
-            work = q ∙ ap (λ (y : List ℕ). over y at H) b.work
-                ∙ over_before Y at (at + 4) H G refl (omega (arith, y, can.room, ap length u, encode_length s k l xs))
-                ∙ ap₂ (λ (y u : List ℕ). over (over w lo y) at u) (sym z.frames) u;
-          }
+  pub leaf_size : k ≡ 0 → 1 ≡ size s k l xs
+  leaf_size e = sym (last s k l xs e).nodes
 
--- ---- the groups, one after the other
-module _ {s : Same} {n : ℕ} {w : List ℕ} {scratch from rest next k l : ℕ} (given : GroupsRoom s n w scratch from rest next k l) (more : 0 < rest) where
-  abbrev room : Room n w scratch from rest next (group_nodes s k l (part w from rest))
-  room = given.here
+  pub leaf_words : k ≡ 0 → over ws 0 (length xs ∷ 1 ∷ x ∷ 0 ∷ []) ≡ over ws 0 (encode s k l xs)
+  leaf_words e = rw first_is (ap (over ws 0) (sym (last s k l xs e).words))
 
-  abbrev others : List ℕ
-  others = part w (from + 1) (rest - 1)
+  module _ (inside : k ≡ 0 → ⊥) {xs' scratch' ws' : List ℕ} {from done : ℕ} (b : Building s n (k - 1) (l + 1) xs ws xs' scratch' ws' from done) (all : length xs ≤ from) where
+    pub node_size : done ≡ size s k l xs
+    node_size = built_nodes b all ∙ sym (inner s k l xs inside).nodes
 
-  cut : part w from rest ≡ get_or w from 0 ∷ others
-  cut =
-      let e : rest ≡ rest - 1 + 1 = omega arith in
-      ap (part w from) e ∙ part_first w from (rest - 1) (omega (arith, frames_fit room))
-
-  pub first_below : get_or w from 0 < n
-  first_below = room.below (get_or w from 0) (rw cut (inl refl))
-
-  pub others_below : Below n others
-  others_below x i = room.below x (rw cut (inr i))
-
-  -- after the partition
-  module _ {x kept : ℕ} {w₁ : List ℕ} (ex : x ≡ get_or w from 0) (ek : kept ≡ length (keep (s l x) others)) (ew : w₁ ≡ over w (from + 1) (keep (s l x) others ++ lose (s l x) others)) where
-    abbrev K : List ℕ
-    K = x ∷ keep (s l x) others
-
-    abbrev L : List ℕ
-    L = lose (s l x) others
-
-    gs : groups (s l) (part w from rest) ≡ K ∷ groups (s l) L
-    gs = ap (groups (s l)) (cut ∙ ap (λ (y : ℕ). y ∷ others) (sym ex)) ∙ groups_cons (s l) x others
-
-    w₁_is : w₁ ≡ over w from (K ++ L)
-    w₁_is = ew ∙ over_cons w from (keep (s l x) others ++ L) (omega (arith, frames_fit room)) ∙ ap (λ (y : ℕ). over w from (y ∷ (keep (s l x) others ++ L))) (sym ex)
-
-    pub rest_is : rest ≡ 1 + kept + length L
-    rest_is = omega (arith, parts_length (s l x) others, part_length w (from + 1) (rest - 1) (omega (arith, frames_fit room)))
-
-    all_fit : from + length (K ++ L) ≡ from + rest
-    all_fit = omega (arith, length-append K L, rest_is)
-
-    w₁_length : length w₁ ≡ length w
-    w₁_length = ap length w₁_is ∙ over_length w from (K ++ L) (omega (arith, all_fit, frames_fit room))
-
-    here : part w₁ from (1 + kept) ≡ K
-    here = ap (λ (z : List ℕ). part z from (1 + kept)) w₁_is ∙ part_front w from (1 + kept) K L (omega (arith, frames_fit room)) (omega arith)
-
-    nodes_are : group_nodes s k l (part w from rest) ≡ size s k l K + group_nodes s k l L
-    nodes_are = rw gs
-
-    clear₁ : Clear w₁ scratch rest
-    clear₁ = rw w₁_is (clear_after w scratch rest from (K ++ L) (omega (arith, frames_fit room)) (omega (arith, all_fit, room.before)) room.clear)
-
-    pub node_can : NodeRoom s n w₁ scratch from (1 + kept) next k l
-    node_can = record {
-      some = omega arith;
-      here = record {
-        few = omega (arith, rest_is, room.few);
-        before = omega (arith, rest_is, room.before);
-        after = omega (arith, rest_is, room.after);
-        below = rw here (group_below n (s l) K (part w from rest) (rw gs (inl refl)) room.below);
-        clear = λ i h. clear₁ i (omega (arith, rest_is));
-        room = rw here (omega (arith, room.room, nodes_are, w₁_length));
-        most = rw here (omega (arith, room.most, nodes_are));
-      };
-    }
-
-    -- after the first group's tree
-    module _ {next' : ℕ} {w₂ : List ℕ} (b : BuiltNode s w₁ from (1 + kept) next k l w₂ next') where
-      abbrev A : List ℕ
-      A = arrange s k l K
-
-      abbrev E : List ℕ
-      E = encode s k l K
-
-      abbrev Y : List ℕ
-      Y = over w from (A ++ L)
-
-      a_length : length A ≡ 1 + kept
-      a_length = omega (arith, arrange_length s k l K)
-
-      y_length : length Y ≡ length w
-      y_length = over_length w from (A ++ L) (omega (arith, length-append A L, a_length, rest_is, frames_fit room))
-
-      e_fit : next + length E ≤ length Y
-      e_fit = omega (arith, encode_length s k l K, room.room, nodes_are, y_length)
-
-      w₂_is : w₂ ≡ over Y next E
-      w₂_is =
-          b.work ∙ ap (λ (z : List ℕ). over (over w₁ from (arrange s k l z)) next (encode s k l z)) here
-          ∙ ap (λ (z : List ℕ). over z next E) (ap (λ (z : List ℕ). over z from A) w₁_is ∙ over_front w from K L A (omega (arith, frames_fit room)) (arrange_length s k l K))
-
-      pub rest_length : length w₂ ≡ length w
-      rest_length = ap length w₂_is ∙ over_length Y next E e_fit ∙ y_length
-
-      next_is : next' ≡ next + length E
-      next_is = b.next ∙ ap (λ (z : List ℕ). next + length (encode s k l z)) here
-
-      there : part w₂ (from + (1 + kept)) (rest - (1 + kept)) ≡ L
-      there =
-          ap (λ (z : List ℕ). part z (from + (1 + kept)) (rest - (1 + kept))) w₂_is
-          ∙ part_under Y (from + (1 + kept)) (rest - (1 + kept)) next E (omega (arith, rest_is, room.before, room.after)) (omega (arith, e_fit))
-          ∙ part_back w from (from + (1 + kept)) (rest - (1 + kept)) A L (omega (arith, frames_fit room)) (omega (arith, a_length)) (omega (arith, rest_is))
-
-      clear₂ : Clear w₂ scratch rest
-      clear₂ = rw w₂_is (clear_before Y scratch rest next E (omega (arith, e_fit)) room.after
-          (clear_after w scratch rest from (A ++ L) (omega (arith, frames_fit room)) (omega (arith, length-append A L, a_length, rest_is, room.before)) room.clear))
-
-      pub rest_can : GroupsRoom s n w₂ scratch (from + (1 + kept)) (rest - (1 + kept)) next' k l
-      rest_can = record {
-        here = record {
-          few = omega (arith, room.few);
-          before = omega (arith, rest_is, room.before);
-          after = omega (arith, next_is, room.after);
-          below = rw there (lose_below n (s l x) others others_below);
-          clear = λ i h. clear₂ i (omega arith);
-          room = rw there (omega (arith, room.room, nodes_are, next_is, encode_length s k l K, rest_length));
-          most = rw there (omega (arith, room.most, nodes_are));
-        };
-      }
-
-      pub groups_more : {r : ℕ} {w₃ : List ℕ} → BuiltGroups s w₂ (from + (1 + kept)) (rest - (1 + kept)) next' k l w₃ r → BuiltGroups s w from rest next k l w₃ r
-      groups_more {r} {w₃} d =
-          let mid : ℕ = from + (1 + kept) in
-          let J : List ℕ = group_words s k l L in
-          let N : List ℕ = group_frames s k l L in
-          let Q : List ℕ = over w from (A ++ N) in
-          let nl : length N ≡ length L = frames_length s k l L in
-          let ql : length Q ≡ length w = over_length w from (A ++ N) (omega (arith, length-append A N, nl, a_length, rest_is, frames_fit room)) in
-          let jl : length J ≡ 4 * group_nodes s k l L = trees_length s k l (groups (s l) L) in
-          let d' : Built w₂ mid next' N J w₃ r = rw there at d in
-          rw gs record {
-            next = omega (arith, d'.next, next_is, length-append E J);
-            work = d'.work ∙ ap (λ (z : List ℕ). over (over z mid N) next' J) w₂_is
-                ∙ ap (λ (z : List ℕ). over z next' J) (sym (over_apart Y mid next N E (omega (arith, nl, rest_is, room.before, room.after)) e_fit) ∙ ap (λ (z : List ℕ). over z next E) (over_back w from mid A L N (omega (arith, frames_fit room)) (omega (arith, a_length)) nl))
-                ∙ over_next Q next next' E J next_is (omega (arith, ql, next_is, room.room, nodes_are, jl, encode_length s k l K));
-          }
-
--- the loop over the groups: what is left can be built, and with it the whole is built
-pub record Building (s : Same) (n : ℕ) (w₀ : List ℕ) (scratch lo m at k l : ℕ) (w : List ℕ) (from rest next : ℕ) : Type 0 where
-  pub long : length w ≡ length w₀
-  pub can : GroupsRoom s n w scratch from rest next k l
-  pub whole : (w' : List ℕ) (r : ℕ) → BuiltGroups s w from rest next k l w' r → BuiltGroups s w₀ lo m at k l w' r
-
-module _ {s : Same} {n : ℕ} {w₀ : List ℕ} {scratch lo m at k l : ℕ} where
-  pub building_start : GroupsRoom s n w₀ scratch lo m at k l → Building s n w₀ scratch lo m at k l w₀ lo m at
-  building_start h = record { long = refl; can = h; whole = λ w' r b. b }
-
-  module _ {w : List ℕ} {from rest next : ℕ} (c : Building s n w₀ scratch lo m at k l w from rest next) where
-    pub building_end : rest ≤ 0 → BuiltGroups s w₀ lo m at k l w next
-    building_end h =
-        let e : rest ≡ 0 = omega arith in
-        let z : groups (s l) (part w from rest) ≡ [] = ap (λ (i : ℕ). groups (s l) (part w from i)) e ∙ groups_nil (s l) in
-        c.whole w next (rw z record { next = omega arith; work = sym (over_nil (over w from []) next ∙ over_nil w from) })
-
-    pub building_step : (more : 0 < rest) {x kept : ℕ} {w₁ : List ℕ} → x ≡ get_or w from 0
-        → kept ≡ length (keep (s l x) (part w (from + 1) (rest - 1)))
-        → w₁ ≡ over w (from + 1) (keep (s l x) (part w (from + 1) (rest - 1)) ++ lose (s l x) (part w (from + 1) (rest - 1)))
-        → {w₂ : List ℕ} {next' : ℕ} → BuiltNode s w₁ from (1 + kept) next k l w₂ next'
-        → Building s n w₀ scratch lo m at k l w₂ (from + (1 + kept)) (rest - (1 + kept)) next'
-    building_step more ex ek ew b = record {
-      long = rest_length c.can more ex ek ew b ∙ c.long;
-      can = rest_can c.can more ex ek ew b;
-      whole = λ w' r d. c.whole w' r (groups_more c.can more ex ek ew b d);
-    }
+    pub node_words : over ws' 0 (length xs ∷ done ∷ x ∷ 0 ∷ []) ≡ over ws 0 (encode s k l xs)
+    node_words =
+        let z = inner s k l xs inside in
+        let G : List ℕ = group_words s (k - 1) (l + 1) xs in
+        let H : List ℕ = length xs ∷ done ∷ x ∷ 0 ∷ [] in
+        let u : H ++ G ≡ encode s k l xs = sym (z.words ∙ simp (first_is, node_size)) in
+        ap (λ (z : List ℕ). over z 0 H) (built_words b all)
+        ∙ over_before ws 0 4 H G refl (omega (arith, trees_length s (k - 1) (l + 1) (groups (s (l + 1)) xs), z.nodes, r.room))
+        ∙ ap (over ws 0) u

@@ -1,6 +1,6 @@
 -- The counting tree of some frames as words in pre-order, and the count that is read from it; `same l i j` says whether frames i and j share a box of level l.
 -- A node is the list xs of its frames, of level l, k levels above the last. Its children are the groups of xs that share a box of the next level, in order of creation.
-use Rattle.std.specs.Prelude.{◌≡◌, Bool}
+use Rattle.std.specs.Prelude.{◌≡◌, Bool, Option, None, Some, IfSome, is_some}
 use Rattle.std.proofs.Math.Path.{refl}
 use Rattle.std.proofs.Common.{◌∙◌}
 use mathlib.Core.List.{List, [], ◌∷◌, map}
@@ -8,7 +8,7 @@ use Prim.Native.Nat.{ℕ, zero, suc, ◌+◌, ◌*◌, ◌≤◌, ◌<◌}
 use native.Mathlib.Omega.{arith}
 use Rattle.std.proofs.Math.Nat.{mul-suc}
 use Rattle.std.proofs.Math.ListN.{length}
-use Rattle.lists.specs.Lists.{head_or, total, concat, In, Below, groups}
+use Rattle.lists.specs.Lists.{In, head_or, total, concat, Below, groups, nonzero}
 use Rattle.lists.specs.Words.{part}
 use Rattle.lists.specs.CountLaws.{total_same, total_times, total_le, length_concat}
 use Rattle.lists.proofs.GroupLaws.{groups_length, group_some}
@@ -41,17 +41,27 @@ pub record TreeAt (same : Same) (n : ℕ) (ws : List ℕ) (at k l : ℕ) (xs : L
   pub node : Node n xs
   pub words : Stand ws at (encode same k l xs)
 
--- the trees of the nodes gs stand in ws from `at` up to `end`
-pub record TreesAt (same : Same) (n : ℕ) (ws : List ℕ) (at end k l : ℕ) (gs : List (List ℕ)) : Type 0 where
+-- the words are the trees of the nodes gs, one after the other
+pub record TreesAt (same : Same) (n : ℕ) (ws : List ℕ) (k l : ℕ) (gs : List (List ℕ)) : Type 0 where
   pub nodes : (g : List ℕ) → In g gs → Node n g
-  pub words : Stand ws at (concat (map (encode same k l) gs))
-  pub ends : end ≡ at + length (concat (map (encode same k l) gs))
+  pub words : ws ≡ concat (map (encode same k l) gs)
 
--- the count and the first frame of the node that is counted
-abbrev pub told_of : List ℕ → Counted
-told_of xs = record { count = length xs; first = head_or 0 xs }
+-- the count and the first frame of the node that is counted; none where no node is
+abbrev pub told_of : List ℕ → Option Counted
+told_of [] = None
+told_of (x ∷ xs) = Some record { count = length (x ∷ xs); first = x }
 
 -- ---- laws
+-- a node is counted exactly where the count is not 0
+pub told_some : (xs : List ℕ) → is_some (told_of xs) ≡ nonzero (length xs)
+told_some [] = refl
+told_some (x ∷ xs) = refl
+
+-- and then its count is at least 1
+pub told_count : (xs : List ℕ) → IfSome (told_of xs) (λ c. 0 < c.count)
+told_count [] = tt
+told_count (x ∷ xs) = omega arith
+
 four : (f : List ℕ → List ℕ) (z : List ℕ → ℕ) → ((g : List ℕ) → length (f g) ≡ 4 * z g) → (gs : List (List ℕ)) → length (concat (map f gs)) ≡ 4 * total z gs
 four f z h gs = length_concat f gs ∙ total_same (λ g. length (f g)) (λ g. 4 * z g) gs (λ g i. h g) ∙ total_times 4 z gs
 

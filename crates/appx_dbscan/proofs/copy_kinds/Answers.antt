@@ -1,24 +1,20 @@
-use mathlib.Core.Path.{refl}
-use Prim.Native.Nat.{◌*◌}
-use native.Mathlib.Omega.{arith}
-use Rattle.lists.proofs.PartLaws.{part_below}
-use Rattle.lists.proofs.LoopLaws.{fill_start, fill_length, fill_step, fill_part}
+use Rattle.std.proofs.Common.{◌≡◌, ◌∙◌, ◌<◌, ℕ, ◌+◌, ◌*◌, List, ap, sym, set, get_or, take, length, length-take-le, arith}
+use Rattle.lists.specs.Words.{over, part}
+use Rattle.lists.proofs.PartLaws.{part_below, part_snoc, part_length}
+use Rattle.lists.proofs.WordLaws.{over_snoc}
 use Rattle.appx_dbscan.proofs.copy_kinds.Goals as goal
 
-pub loop-i-init : goal.loop-i-init
-loop-i-init c = fill_start (omega arith)
+-- the next word of the part is laid
+laid : (xs w : List ℕ) (at i : ℕ) → at + i < length w → i < length xs → set (over xs 0 (part w at i)) i (get_or w (at + i) 0) ≡ over xs 0 (part w at (i + 1))
+laid xs w at i h l = over_snoc xs 0 i (part w at i) (get_or w (at + i) 0) (omega (arith, part_length w at i (omega arith))) l ∙ ap (over xs 0) (sym (part_snoc w at i h))
 
-pub overflow_cast-kinds : goal.overflow_cast-kinds
-overflow_cast-kinds c = omega (arith, part_below 3 c.args.work.now (9 * c.args.n) c.args.n c.loop-i.i c.requires.2 (omega arith) c.loop-i-test.true)
-
-pub bounds-kinds-i : goal.bounds-kinds-i
-bounds-kinds-i c = omega (arith, fill_length c.loop-i.invariant)
+pub overflow_cast-kind : goal.overflow_cast-kind
+overflow_cast-kind c =
+    let l : c.loop-i.i < c.args.n = omega (arith, length-take-le c.args.n c.args.kinds.now c.requires.1) in
+    omega (arith, part_below 3 c.args.work.now (9 * c.args.n) c.args.n c.loop-i.i c.requires.2 (omega arith) l)
 
 pub loop-i-preserved : goal.loop-i-preserved
-loop-i-preserved c = fill_step c.loop-i.invariant c.loop-i-test.true _ _ (omega arith) refl
-
-pub shape_of-kinds : goal.shape_of-kinds
-shape_of-kinds c = fill_length c.loop-i.invariant
-
-pub returns : goal.returns
-returns c = fill_part _ (9 * c.args.n) (omega arith) c.loop-i.invariant c.loop-i-test.false
+loop-i-preserved c =
+    let l : c.loop-i.i < c.args.n = omega (arith, length-take-le c.args.n c.args.kinds.now c.requires.1) in
+    ap (λ (z : List ℕ). set z c.loop-i.i (get_or c.args.work.now (9 * c.args.n + c.loop-i.i) 0)) c.loop-i.invariant
+    ∙ laid (take c.args.n c.args.kinds.now) c.args.work.now (9 * c.args.n) c.loop-i.i (omega arith) c.loop-i-test.true

@@ -1,11 +1,7 @@
--- `copy_kinds` meets its contract.
-use Prim.Native.Nat.{◌+◌, ◌-◌, ◌*◌}
-use lib.ListN.{get_or}
-use Rattle.lists.proofs.LoopLaws.{Fill}
+-- The kinds so far stand first.
+use Rattle.std.proofs.Common.{◌≡◌, ◌*◌}
+use Rattle.lists.specs.Words.{over, part}
 use Rattle.appx_dbscan.proofs.copy_kinds.Given as goal
 
 abbrev pub invariant-loop-i : goal.invariant-loop-i
-invariant-loop-i l = Fill (λ j. get_or l.work (9 * l.n + j) 0) l.initial.kinds 0 l.n l.kinds l.i
-
-abbrev pub decreases-loop-i : goal.decreases-loop-i
-decreases-loop-i l = l.n - l.i
+invariant-loop-i l = l.kind-items ≡ over l.initial.kind-items 0 (part l.work (9 * l.n) l.i)

@@ -1,32 +1,17 @@
-use mathlib.Core.Path.{◌≡◌, refl, sym, ap, ◌∙◌}
-use mathlib.Core.Bool.{Bool, true, false, cond}
-use Prim.Native.Nat.{ℕ, ◌+◌, ◌*◌}
-use native.Mathlib.Nat.{add-zero}
-use native.Mathlib.Omega.{arith}
-use lib.Dec.{eqb}
-use lib.ListN.{get_or}
-use Rattle.lists.specs.Lists.{numbers, how_many}
-use Rattle.lists.specs.OrderLaws.{many_snoc}
+use Rattle.std.proofs.Common.{◌≡◌, ℕ, ◌+◌, ◌*◌, ◌∙◌, ap, Bool, cond, List, ◌∷◌, zero, suc, refl, add-one, length, get_or, eqb, rules, arith}
+use Rattle.std.specs.List.{range_with_len, filter}
+use Rattle.std.proofs.lemmas.Iterator.{YieldsList-from_range}
+use Rattle.std.proofs.lemmas.Iterator.Consumers.{count_from_yields_List, YieldsList-from_filter, YieldsList-at}
+use borrow.Author.Tests.{tests}
+use Rattle.lists.specs.Lists.{from, keep}
 use Rattle.appx_dbscan.proofs.count_cores.Goals as goal
 
-counted : (f : ℕ → Bool) (m i : ℕ) (b : Bool) → m ≡ how_many f (numbers i) → f i ≡ b → m + cond b 1 0 ≡ how_many f (numbers (i + 1))
-counted f m i b e t =
-    let s : ◌≡◌ {A = ℕ} (cond (f i) 1 0) (cond b 1 0) = ap (λ (b : Bool). cond b 1 0) t in
-    omega (arith, many_snoc f i)
-
-pub loop-i-init : goal.loop-i-init
-loop-i-init c = (omega arith, refl, omega arith)
-
-pub is_core-requires : goal.is_core-requires
-is_core-requires c = (omega arith, omega arith)
-
-pub loop-i-preserved-then-is_core : goal.loop-i-preserved-then-is_core
-loop-i-preserved-then-is_core c = (omega arith, counted _ c.loop-i.m c.loop-i.i true c.loop-i.invariant.1 (sym c.is_core.ensures ∙ c.if-is_core.true), omega arith)
-
-pub loop-i-preserved : goal.loop-i-preserved
-loop-i-preserved c = (omega arith, sym (add-zero _) ∙ counted _ c.loop-i.m c.loop-i.i false c.loop-i.invariant.1 (sym c.is_core.ensures ∙ c.if-is_core.false), omega arith)
+kept_from : (f : ℕ → Bool) (a n : ℕ) → filter f (range_with_len a n) ≡ keep f (from a n)
+kept_from f a zero = refl
+kept_from f a (suc n) = ap (λ (r : List ℕ). cond (f a) (a ∷ r) r) (ap (λ (b : ℕ). filter f (range_with_len b n)) (add-one a) ∙ kept_from f (suc a) n)
 
 pub returns : goal.returns
 returns c =
-    let e : c.loop-i.i ≡ c.args.n = omega arith in
-    c.loop-i.invariant.1 ∙ ap (λ (k : ℕ). how_many (λ (j : ℕ). eqb (get_or c.args.work.now (4 * c.args.n + j) 0) 1) (numbers k)) e
+    let f : ℕ → Bool = λ i. eqb (get_or c.args.work.now (4 * c.args.n + i) 0) 1 in
+    count_from_yields_List _ _ c.count.ensures.ran (YieldsList-from_filter _ f (YieldsList-at c.filter.ensures.source (YieldsList-from_range 0 c.args.n c.args.n refl (omega arith))) c.filter.ensures.closure (λ x r q k. search (rules, tests)))
+    ∙ ap length (kept_from f 0 c.args.n)

@@ -1,21 +1,24 @@
 -- `transform` meets its contract.
-use mathlib.Core.Path.{sym, ◌∙◌}
-use Rattle.appx_dbscan.proofs.Call.{refused, some_channels, ready, labelled}
+use Rattle.std.proofs.Common.{◌≡◌, Ok, rules}
+use Rattle.counting_tree.specs.Ready.{ready_of}
+use Rattle.appx_dbscan.specs.Transform.{checked_call}
+use Rattle.appx_dbscan.proofs.Call.{fits, labelled}
 use Rattle.appx_dbscan.proofs.transform.Goals as goal
 
-pub nonzero_div-n : goal.nonzero_div-n
-nonzero_div-n c = some_channels c.args.p c.args.points.now c.args.labels.now c.args.kinds.now c.args.work.now (sym c.check-checked.ensures ∙ c.in-Valid.is) c.read_counts.ensures
+pub new-frames-requires : goal.new-frames-requires
+new-frames-requires c =
+    let e : checked_call c.args.p c.args.points.now c.args.labels.now c.args.kinds.now c.args.work.now ≡ Ok c.in_ok-v.v = search rules in
+    ready_of c.args.p c.args.points.now _ _ _ e
 
-pub run-counts-requires : goal.run-counts-requires
-run-counts-requires c = ready c.args.p c.args.points.now c.args.labels.now c.args.kinds.now c.args.work.now (sym c.check-checked.ensures ∙ c.in-Valid.is) c.read_counts.ensures
+pub run-requires : goal.run-requires
+run-requires c =
+    let e : checked_call c.args.p c.args.points.now c.args.labels.now c.args.kinds.now c.args.work.now ≡ Ok c.in_ok-v.v = search rules in
+    let f = c.new-frames.ensures in
+    fits _ _ _ _ _ e c.new-frames.result f.points f.settings f.count
 
-pub returns-in-Refused : goal.returns-in-Refused
-returns-in-Refused c =
-    let z = refused c.args.p c.args.points.now c.args.labels.now c.args.kinds.now c.args.work.now (sym c.check-checked.ensures ∙ c.in-Refused.is) in
-    record { outcome = z.0; labels = z.1.0; kinds = z.1.1.0; work = z.1.1.1.0; promise = z.1.1.1.1 }
-
-pub returns-in-Valid : goal.returns-in-Valid
-returns-in-Valid c =
-    let z = labelled c.args.p c.args.points.now c.args.labels.now c.args.kinds.now c.args.work.now (sym c.check-checked.ensures ∙ c.in-Valid.is) c.read_counts.ensures
-    c.run-counts.ensures.clusters c.run-counts.ensures.cores c.run-counts.ensures.labels c.run-counts.ensures.kinds c.run-counts.ensures.work in
-    record { outcome = z.0; labels = z.1.0; kinds = z.1.1.0; work = z.1.1.1.0; promise = z.1.1.1.1 }
+pub returns : goal.returns
+returns c =
+    let e : checked_call c.args.p c.args.points.now c.args.labels.now c.args.kinds.now c.args.work.now ≡ Ok c.in_ok-v.v = search rules in
+    let f = c.new-frames.ensures in
+    let z = labelled _ _ _ _ _ e c.new-frames.result f.points f.settings f.count c.run.ensures.clusters c.run.ensures.cores c.run.ensures.labels c.run.ensures.kinds c.run.ensures.work in
+    record { outcome = z.outcome; labels = z.labels_told; kinds = z.kinds_told; work = z.work_told; promise = z.promise }

@@ -9,31 +9,19 @@ pub loop-c-init : goal.loop-c-init
 loop-c-init c = (omega arith, λ d l. absurd (omega arith))
 
 pub cell_end-end-requires : goal.cell_end-end-requires
-cell_end-end-requires c = dense_end c.requires.0 c.requires.1 c.loop-c-test.true
-
-pub overflow_mul-n : goal.overflow_mul-n
-overflow_mul-n c = omega (arith, c.requires.0.few)
-
-pub overflow_add-n : goal.overflow_add-n
-overflow_add-n c = omega (arith, c.loop-c-test.true, dense_end c.requires.0 c.requires.1 c.loop-c-test.true, c.requires.0.few)
+cell_end-end-requires c = dense_end c.args.frames.now.ready c.requires c.loop-c-test.true
 
 pub word-requires : goal.word-requires
-word-requires c = omega (arith, dense_end c.requires.0 c.requires.1 c.loop-c-test.true)
+word-requires c = omega (arith, dense_end c.args.frames.now.ready c.requires c.loop-c-test.true)
 
 pub overflow_sub-end : goal.overflow_sub-end
-overflow_sub-end c = dense_start c.requires.0 c.requires.1 c.loop-c-test.true c.word.ensures c.cell_end-end.ensures
+overflow_sub-end c = dense_start c.args.frames.now.ready c.requires c.loop-c-test.true c.word.ensures c.cell_end-end.ensures
 
 pub returns-then-end-word : goal.returns-then-end-word
-returns-then-end-word c = dense_no c.requires.0 c.requires.1 c.loop-c-test.true c.word.ensures c.cell_end-end.ensures c.if-end-word.true
-
-pub overflow_add-c : goal.overflow_add-c
-overflow_add-c c = omega (arith, c.loop-c-test.true, dense_end c.requires.0 c.requires.1 c.loop-c-test.true, c.requires.0.few)
-
-pub loop-c-smaller : goal.loop-c-smaller
-loop-c-smaller c = omega (arith, c.loop-c-test.true)
+returns-then-end-word c = dense_no c.args.frames.now.ready c.requires c.loop-c-test.true c.word.ensures c.cell_end-end.ensures c.if-end-word.true
 
 pub loop-c-preserved : goal.loop-c-preserved
-loop-c-preserved c = (omega (arith, c.loop-c-test.true), dense_more (λ d. dense (geometry_at c.args.v c.args.n c.args.points.now) (cell_at (geometry_at c.args.v c.args.n c.args.points.now) d)) c.loop-c.invariant.1 (dense_yes c.requires.0 c.requires.1 c.loop-c-test.true c.word.ensures c.cell_end-end.ensures (omega (arith, c.if-end-word.false))))
+loop-c-preserved c = (omega (arith, c.loop-c-test.true), dense_more (λ d. dense (geometry_at c.args.frames.now.v c.args.frames.now.n c.args.frames.now.points.now) (cell_at (geometry_at c.args.frames.now.v c.args.frames.now.n c.args.frames.now.points.now) d)) c.loop-c.invariant.1 (dense_yes c.args.frames.now.ready c.requires c.loop-c-test.true c.word.ensures c.cell_end-end.ensures (omega (arith, c.if-end-word.false))))
 
 pub returns : goal.returns
-returns c = dense_all c.requires.0 c.requires.1 (λ d l. c.loop-c.invariant.1 d (omega (arith, c.loop-c-test.false)))
+returns c = dense_all c.args.frames.now.ready c.requires (λ d l. c.loop-c.invariant.1 d (omega (arith, c.loop-c-test.false)))

@@ -1,9 +1,6 @@
--- Each set begins after the one before it.
-use Rattle.std.proofs.Common.{◌-◌, ◌≤◌, length}
+-- Each set is shorter than the text that it heads.
+use Rattle.std.proofs.Common.{length}
 use Rattle.detail.proofs.show_sets.Given as goal
 
-abbrev pub invariant-loop-from : goal.invariant-loop-from
-invariant-loop-from g l = l.from ≤ length l.text
-
-abbrev pub decreases-loop-from : goal.decreases-loop-from
-decreases-loop-from g l = length l.text - l.from
+abbrev pub decreases-loop-rest : goal.decreases-loop-rest
+decreases-loop-rest g l = length l.rest

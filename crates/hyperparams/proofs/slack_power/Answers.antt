@@ -1,6 +1,7 @@
-use Rattle.std.proofs.Common.{◌≡◌, ℕ, suc, ◌+◌, ◌-◌, ◌*◌, ◌^◌, ◌<◌, Bool, true, false, cond, sym, refl, ap, ◌∙◌, subst, le_trans, le_of_eq, pow-suc, add-one, arith, le→leb, pow_mono}
-use lib.Ieee.{Float, binary64, eq, div, of_int, of_bits, in_float}
-use Rattle.hyperparams.specs.Params.{float, slack_at, slack_from, slack_power}
+use Rattle.std.specs.Prelude.{Some}
+use Rattle.std.proofs.Common.{◌≡◌, ℕ, suc, ◌+◌, ◌-◌, ◌*◌, ◌^◌, ◌<◌, ◌≤◌, Bool, true, false, cond, sym, refl, ap, ◌∙◌, pow-suc, add-one, arith, le-leb}
+use lib.Ieee.{Float, binary64, eq, div, of_int, of_bits}
+use Rattle.hyperparams.specs.Params.{float, max_power, slack_at, slack_from, slack_power, slack_power_of}
 use Rattle.hyperparams.proofs.slack_power.Goals as goal
 
 -- one step of `slack_from`
@@ -10,26 +11,17 @@ step x s power b h p e =
     let k : 11 - s ≡ suc (11 - (s + 1)) = omega arith in
     rw (k, ← e, p, add-one)
 
+power_found : (x : Float) (s : ℕ) → s ≤ max_power → slack_power x ≡ s → Some s ≡ slack_power_of x
+power_found x s h e = rw (e, le-leb s max_power h)
+
 pub loop-s-init : goal.loop-s-init
 unfolding slack_power
-loop-s-init c = (omega arith, refl, refl)
-
-pub int_to_float-power : goal.int_to_float-power
-unfolding in_float
-int_to_float-power c = le→leb c.loop-s.power (2 ^ 53) (le_trans (le_of_eq c.loop-s.invariant.1) (pow_mono {j = 53} (omega arith)))
+loop-s-init c = (refl, refl)
 
 pub returns-then-slack-power : goal.returns-then-slack-power
 unfolding of_bits of_int
-returns-then-slack-power c = sym (step c.args.slack c.loop-s.s c.loop-s.power true (omega arith) c.loop-s.invariant.1 c.if-slack-power.true) ∙ c.loop-s.invariant.2
-
-pub overflow_mul-power : goal.overflow_mul-power
-overflow_mul-power c = omega (arith, le_trans (le_of_eq c.loop-s.invariant.1) (pow_mono {j = 11} (omega arith)))
+returns-then-slack-power c = power_found c.args.slack c.loop-s.s (omega arith) (sym c.loop-s.invariant.1 ∙ step c.args.slack c.loop-s.s c.loop-s.power true (omega arith) c.loop-s.invariant.0 c.if-slack-power.true)
 
 pub loop-s-preserved : goal.loop-s-preserved
 unfolding of_bits of_int
-loop-s-preserved c = (omega arith, ap (λ (p : ℕ). p * 2) c.loop-s.invariant.1 ∙ rw (add-one, pow-suc), sym (step c.args.slack c.loop-s.s c.loop-s.power false (omega arith) c.loop-s.invariant.1 c.if-slack-power.false) ∙ c.loop-s.invariant.2)
-
-pub returns : goal.returns
-returns c =
-    let e : c.loop-s.s ≡ 11 = omega arith in
-    subst (λ (s : ℕ). slack_from (11 - s) s c.args.slack ≡ slack_power c.args.slack) e c.loop-s.invariant.2
+loop-s-preserved c = (ap (λ (p : ℕ). p * 2) c.loop-s.invariant.0 ∙ rw (add-one, pow-suc), sym (step c.args.slack c.loop-s.s c.loop-s.power false (omega arith) c.loop-s.invariant.0 c.if-slack-power.false) ∙ c.loop-s.invariant.1)

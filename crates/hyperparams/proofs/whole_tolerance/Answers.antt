@@ -2,6 +2,7 @@
 use lib.Ieee.{of_bits}
 use Rattle.hyperparams.proofs.Tolerance.{above, under, uncut, inside, in_float_lem, found, none}
 use Rattle.hyperparams.proofs.whole_tolerance.Goals as goal
+use Rattle.hyperparams.proofs.whole_tolerance.Goals.{else-tolerance-via-then-tolerance+else-tolerance-2, else-tolerance-via-else-tolerance}
 
 pub truncating_f64_to_u64-t-requires : goal.truncating_f64_to_u64-t-requires
 unfolding of_bits
@@ -20,10 +21,9 @@ returns-then-t-tolerance c = found c.args.tolerance _ c.truncating_f64_to_u64-t.
 pub returns-else-t-tolerance : goal.returns-else-t-tolerance
 returns-else-t-tolerance c = none c.args.tolerance (uncut c.args.tolerance) (λ p. p.is_uncut) (rw c.truncating_f64_to_u64-t.ensures at c.if-t-tolerance.false)
 
-pub returns-else-tolerance-2 : goal.returns-else-tolerance-2
-unfolding of_bits
-returns-else-tolerance-2 c = none c.args.tolerance (under c.args.tolerance) (λ p. p.is_under) c.if-tolerance-2.false
-
 pub returns-else-tolerance : goal.returns-else-tolerance
 unfolding of_bits
-returns-else-tolerance c = none c.args.tolerance (above c.args.tolerance) (λ p. p.is_above) c.if-tolerance.false
+returns-else-tolerance c = elim c.else-tolerance.branch [
+  | else-tolerance-via-then-tolerance+else-tolerance-2 w ↦ none c.args.tolerance (under c.args.tolerance) (λ p. p.is_under) w.if-tolerance-2.false
+  | else-tolerance-via-else-tolerance w ↦ none c.args.tolerance (above c.args.tolerance) (λ p. p.is_above) w.if-tolerance.false
+]

@@ -1,9 +1,9 @@
--- Each vector lies within the text, and the next one begins after it.
-use Rattle.std.proofs.Common.{◌-◌, ◌≤◌}
+-- Each vector takes some of the text.
+use Rattle.std.proofs.Common.{◌+◌, ◌≤◌, length}
 use Rattle.replay.proofs.replay.Given as goal
 
-abbrev pub invariant-loop-at : goal.invariant-loop-at
-invariant-loop-at g l = (l.at ≤ l.end) × (l.count ≤ l.at) × (l.right ≤ l.count)
+abbrev pub invariant-loop-rest : goal.invariant-loop-rest
+invariant-loop-rest g l = (l.count + length l.rest ≤ length l.text) × (l.right ≤ l.count)
 
-abbrev pub decreases-loop-at : goal.decreases-loop-at
-decreases-loop-at g l = l.end - l.at
+abbrev pub decreases-loop-rest : goal.decreases-loop-rest
+decreases-loop-rest g l = length l.rest

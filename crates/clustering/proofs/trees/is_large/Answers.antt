@@ -2,4 +2,4 @@
 use Rattle.clustering.proofs.trees.is_large.Goals as goal
 
 pub returns : goal.returns
-returns c = rw (c.cell_end.ensures, c.word.ensures)
+returns c = rw c.size_of.ensures

@@ -1,44 +1,23 @@
-use native.Mathlib.Omega.{arith}
-use Rattle.counting_tree.specs.Ready.{geometry_at}
-use Rattle.clustering.proofs.Held.{few_cells, room, can_order}
-use Rattle.clustering.proofs.Touching.{touch_start, frame_low, touch_hit, touch_miss, touch_skip, touch_end, touch_none}
+use Rattle.counting_tree.specs.Given.{geometry}
+use Rattle.core_cells.proofs.Held.{frame_low}
+use Rattle.core_cells.proofs.Looking.{seeking_start, seeking_found, seeking_end}
+use Rattle.clustering.proofs.Touching.{touch_all, touch_none}
 use Rattle.clustering.proofs.uniting.touches_cell.Goals as goal
 
 pub returns-then-apart : goal.returns-then-apart
-returns-then-apart c = touch_none (geometry_at c.args.v c.args.n c.args.points.now) c.args.c c.args.d (c.apart.ensures.tells c.if-apart.true).0
+returns-then-apart c = touch_none (geometry c.args.cells.now.frames) c.args.c c.args.d (c.apart.ensures.tells c.if-apart.true).0
 
-pub frames_first-first-requires : goal.frames_first-first-requires
-frames_first-first-requires c = can_order c.requires.0 c.requires.1 c.requires.3
-
-pub cell_end-end-requires : goal.cell_end-end-requires
-cell_end-end-requires c = (c.requires.2, few_cells c.requires.0 c.requires.1, omega (arith, room c.requires.0 c.requires.1))
-
-pub overflow_add-n : goal.overflow_add-n
-overflow_add-n c = omega (arith, few_cells c.requires.0 c.requires.1, room c.requires.0 c.requires.1)
-
-pub word-p-requires : goal.word-p-requires
-word-p-requires c = omega (arith, few_cells c.requires.0 c.requires.1, room c.requires.0 c.requires.1)
-
-pub loop-p-init : goal.loop-p-init
-loop-p-init c = touch_start c.requires.0 c.requires.1 _ _ c.requires.2 _ _
-    c.cell_end-end.ensures c.word-p.ensures
+pub loop-i-init : goal.loop-i-init
+loop-i-init c = seeking_start
 
 pub is_core-requires : goal.is_core-requires
-is_core-requires c = (frame_low c.loop-p.invariant c.loop-p-test.true c.word-i.ensures, c.loop-p.invariant.room)
+is_core-requires c = frame_low c.args.cells.now c.requires.0 c.frames_of-i-items.ensures _ c.loop-i-test.true
 
 pub reaches-requires : goal.reaches-requires
-reaches-requires c = (c.requires.0, c.requires.1, frame_low c.loop-p.invariant c.loop-p-test.true c.word-i.ensures, c.requires.3, c.root_unless-root.ensures)
+reaches-requires c = (frame_low c.args.cells.now c.requires.0 c.frames_of-i-items.ensures _ c.loop-i-test.true, c.requires.1, c.root_first-root.ensures.root)
 
 pub returns-then-reaches : goal.returns-then-reaches
-returns-then-reaches c = touch_hit c.loop-p.invariant c.loop-p-test.true
-    c.word-i.ensures c.is_core.ensures c.if-is_core.true c.reaches.ensures c.if-reaches.true
-
-pub loop-p-preserved-then-is_core : goal.loop-p-preserved-then-is_core
-loop-p-preserved-then-is_core c = touch_miss c.loop-p.invariant c.loop-p-test.true
-    c.word-i.ensures c.is_core.ensures c.if-is_core.true c.reaches.ensures c.if-reaches.false
-
-pub loop-p-preserved : goal.loop-p-preserved
-loop-p-preserved c = touch_skip c.loop-p.invariant c.loop-p-test.true c.word-i.ensures c.is_core.ensures c.if-is_core.false
+returns-then-reaches c = touch_all (geometry c.args.cells.now.frames) c.args.c c.args.d c.frames_of-i-items.ensures (seeking_found c.loop-i.invariant c.loop-i-test.true c.is_core.ensures c.if-is_core.true c.reaches.ensures c.if-reaches.true)
 
 pub returns : goal.returns
-returns c = touch_end c.loop-p.invariant c.loop-p-test.false
+returns c = touch_all (geometry c.args.cells.now.frames) c.args.c c.args.d c.frames_of-i-items.ensures (seeking_end c.loop-i.invariant c.loop-i-test.false)

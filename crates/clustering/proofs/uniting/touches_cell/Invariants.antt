@@ -1,11 +1,9 @@
--- `touches_cell` meets its contract, by the core frames of c that are still to be asked for.
-use Prim.Native.Nat.{◌-◌}
-use Rattle.counting_tree.specs.Ready.{geometry_at}
-use Rattle.clustering.proofs.Touching.{Touching}
+-- None of the frames before place i has a count.
+use Rattle.counting_tree.specs.Given.{geometry}
+use Rattle.cells_grid.specs.Cells.{core}
+use Rattle.core_cells.proofs.Looking.{Seeking}
+use Rattle.clustering.proofs.Touching.{hits}
 use Rattle.clustering.proofs.uniting.touches_cell.Given as goal
 
-abbrev pub invariant-loop-p : goal.invariant-loop-p
-invariant-loop-p l = Touching (geometry_at l.v l.n l.points) l.work l.n l.end l.c l.d l.p
-
-abbrev pub decreases-loop-p : goal.decreases-loop-p
-decreases-loop-p l = l.end - l.p
+abbrev pub invariant-loop-i : goal.invariant-loop-i
+invariant-loop-i l = Seeking (core (geometry l.cells.frames)) (hits (geometry l.cells.frames) l.d) l.i-items l.i-index

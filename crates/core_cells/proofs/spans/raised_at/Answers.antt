@@ -3,4 +3,4 @@ use Rattle.core_cells.proofs.Spanning.{raised_value, raised_low}
 use Rattle.core_cells.proofs.spans.raised_at.Goals as goal
 
 pub returns : goal.returns
-returns c = record { value = raised_value c.requires.0 c.args.i c.requires.1 c.edges_at.ensures.value; bound = raised_low c.requires.0 c.args.i c.requires.1 c.edges_at.ensures.value c.edges_at.ensures.below }
+returns c = record { value = raised_value c.args.frames.now.ready c.args.i c.requires c.edges_at.ensures.value; bound = raised_low c.args.frames.now.ready c.args.i c.requires c.edges_at.ensures.value c.edges_at.ensures.below }

@@ -1,32 +1,16 @@
--- Channel by channel; the others stay 0.
-use native.Mathlib.Omega.{arith}
-use Rattle.counting_tree.proofs.Arrays.{four_centres, centre_here, centre_past}
+use mathlib.Core.Path.{sym, ap, ◌∙◌}
+use mathlib.Core.List.{map-map}
+use lib.IntN.{ℤ}
+use lib.ListN.{take, replicate}
+use lib.Ieee.{of_bits, of_int}
+use Rattle.lists.specs.Words.{over}
+use Rattle.hyperparams.specs.Params.{float}
+use Rattle.std.proofs.Common.{rules}
+use Rattle.counting_tree.specs.Grid.{index, centre, centres, indexes}
+use Rattle.counting_tree.specs.Arrays.{box_of}
+use Rattle.counting_tree.proofs.Placed.{placed_map}
 use Rattle.counting_tree.proofs.boxes.centre_of.Goals as goal
 
-pub returns-then-channels-lt1 : goal.returns-then-channels-lt1
-returns-then-channels-lt1 c =
-    let past = centre_past c.args.channels c.args.side c.args.frame c.well_formed.0.1.0.1 c.requires.channels in
-    four_centres c.args.channels c.args.side c.args.frame c.well_formed.0.1.0.1 c.requires.channels _ _ _ _ (past 0 (omega arith)) (past 1 (omega arith)) (past 2 (omega arith)) (past 3 (omega arith))
-
-pub returns-then-channels-lt2 : goal.returns-then-channels-lt2
-returns-then-channels-lt2 c =
-    let at = centre_here c.args.channels c.args.side c.args.frame c.well_formed.0.1.0.1 c.requires.channels in
-    let past = centre_past c.args.channels c.args.side c.args.frame c.well_formed.0.1.0.1 c.requires.channels in
-    four_centres c.args.channels c.args.side c.args.frame c.well_formed.0.1.0.1 c.requires.channels _ _ _ _ (at 0 c.cell_center-a.result c.if-channels-lt1.false c.cell_center-arg-1.given c.cell_center-a.ensures) (past 1 (omega arith)) (past 2 (omega arith)) (past 3 (omega arith))
-
-pub returns-then-channels-lt3 : goal.returns-then-channels-lt3
-returns-then-channels-lt3 c =
-    let at = centre_here c.args.channels c.args.side c.args.frame c.well_formed.0.1.0.1 c.requires.channels in
-    let past = centre_past c.args.channels c.args.side c.args.frame c.well_formed.0.1.0.1 c.requires.channels in
-    four_centres c.args.channels c.args.side c.args.frame c.well_formed.0.1.0.1 c.requires.channels _ _ _ _ (at 0 c.cell_center-a.result c.if-channels-lt1.false c.cell_center-arg-1.given c.cell_center-a.ensures) (at 1 c.cell_center-b.result c.if-channels-lt2.false c.cell_center-arg-2-1.given c.cell_center-b.ensures) (past 2 (omega arith)) (past 3 (omega arith))
-
-pub returns-then-channels-lt4 : goal.returns-then-channels-lt4
-returns-then-channels-lt4 c =
-    let at = centre_here c.args.channels c.args.side c.args.frame c.well_formed.0.1.0.1 c.requires.channels in
-    let past = centre_past c.args.channels c.args.side c.args.frame c.well_formed.0.1.0.1 c.requires.channels in
-    four_centres c.args.channels c.args.side c.args.frame c.well_formed.0.1.0.1 c.requires.channels _ _ _ _ (at 0 c.cell_center-a.result c.if-channels-lt1.false c.cell_center-arg-1.given c.cell_center-a.ensures) (at 1 c.cell_center-b.result c.if-channels-lt2.false c.cell_center-arg-2-1.given c.cell_center-b.ensures) (at 2 c.cell_center-c.result c.if-channels-lt3.false c.cell_center-arg-3-1.given c.cell_center-c.ensures) (past 3 (omega arith))
-
 pub returns : goal.returns
-returns c =
-    let at = centre_here c.args.channels c.args.side c.args.frame c.well_formed.0.1.0.1 c.requires.channels in
-    four_centres c.args.channels c.args.side c.args.frame c.well_formed.0.1.0.1 c.requires.channels _ _ _ _ (at 0 c.cell_center-a.result c.if-channels-lt1.false c.cell_center-arg-1.given c.cell_center-a.ensures) (at 1 c.cell_center-b.result c.if-channels-lt2.false c.cell_center-arg-2-1.given c.cell_center-b.ensures) (at 2 c.cell_center-c.result c.if-channels-lt3.false c.cell_center-arg-3-1.given c.cell_center-c.ensures) (at 3 c.cell_center-d.result c.if-channels-lt4.false c.cell_center-arg-4-1.given c.cell_center-d.ensures)
+unfolding box_of centres indexes of_bits of_int
+returns c = placed_map c.map_counts.ensures (λ (z : ℤ). centre c.args.side (index c.args.side z)) (λ z x h r. search rules) ∙ ap (over (replicate 4 (float 0)) 0) (sym (map-map (centre c.args.side) (index c.args.side) (take c.args.channels c.args.frame)))

@@ -1,19 +1,16 @@
-use mathlib.Core.Path.{refl, sym, ap, subst, ◌∙◌}
+use mathlib.Core.Path.{sym, ap, subst, ◌∙◌}
 use mathlib.Core.Bool.{true, false}
 use mathlib.Core.List.{List}
 use Prim.Native.Nat.{◌+◌}
 use native.Mathlib.Omega.{arith}
 use borrow.Author.Tests.{eq-eqb, ne_eqb}
 use lib.Ieee.{Float}
-use Rattle.lists.proofs.LoopLaws.{Fill, fill_start, fill_step, fill_end}
+use Rattle.lists.proofs.LoopLaws.{Fill, fill_step, fill_end}
 use Rattle.lists.specs.Words.{over}
 use Rattle.counting_tree.specs.Arrays.{row_of}
 use Rattle.counting_tree.proofs.Arrays.{corner_at, corner_column, corner_here, corner_after}
 use Rattle.counting_tree.proofs.boxes.corner.Goals as goal
 use Rattle.counting_tree.proofs.boxes.corner.Goals.{then-bits-eq0, else-bits-eq0}
-
-pub loop-i-init : goal.loop-i-init
-loop-i-init c = (omega arith, c.well_formed.0.1.0.1, refl, fill_start (omega arith), refl)
 
 pub loop-i-preserved : goal.loop-i-preserved
 loop-i-preserved c =

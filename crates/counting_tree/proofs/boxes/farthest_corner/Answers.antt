@@ -30,9 +30,6 @@ loop-k-preserved c =
       elim c.if-far-sum.branch [ then-far-sum w ↦ step true (omega arith) c.square_sum-sum.ensures w.if-far-sum.true w.far-is | else-far-sum w ↦ step false (omega arith) c.square_sum-sum.ensures w.if-far-sum.false w.far-is ] ∙ c.loop-k.invariant.5,
     )
 
-pub root-requires : goal.root-requires
-root-requires c = tt
-
 pub returns : goal.returns
 returns c =
     let n = c.corner_count-n.result in

@@ -1,57 +1,18 @@
--- Count by count; the others stay 0.
-use mathlib.Core.Path.{refl, sym}
-use Prim.Native.Nat.{◌*◌}
-use native.Mathlib.Nat.{add-zero}
+use mathlib.Core.Path.{◌≡◌, ap, ◌∙◌}
+use mathlib.Core.List.{map-id}
 use native.Mathlib.Omega.{arith}
-use Rattle.lists.proofs.PartLaws.{part_length}
-use Rattle.counting_tree.proofs.Arrays.{four_placed}
-use Rattle.counting_tree.proofs.Counts.{count_read, count_past}
+use Prim.Native.Nat.{ℕ, ◌+◌, ◌-◌, ◌*◌}
+use lib.IntN.{ℤ}
+use lib.ListN.{take, drop}
+use Rattle.std.proofs.Common.{rules}
+use Rattle.counting_tree.specs.Arrays.{placed}
+use Rattle.counting_tree.proofs.Placed.{placed_map}
 use Rattle.counting_tree.proofs.points.frame_at.Goals as goal
 
-pub returns-then-channels-lt1 : goal.returns-then-channels-lt1
-returns-then-channels-lt1 c =
-    let past = count_past c.args.points.now (c.args.i * c.args.channels) c.args.channels in
-    four_placed _ _ _ _ _ (omega (arith, part_length c.args.points.now (c.args.i * c.args.channels) c.args.channels c.requires.inside))
-    (past 0 c.requires.inside (omega arith))
-    (past 1 c.requires.inside (omega arith))
-    (past 2 c.requires.inside (omega arith))
-    (past 3 c.requires.inside (omega arith))
-
-pub returns-then-channels-lt2 : goal.returns-then-channels-lt2
-returns-then-channels-lt2 c =
-    let at = count_read c.args.points.now (c.args.i * c.args.channels) c.args.channels in
-    let past = count_past c.args.points.now (c.args.i * c.args.channels) c.args.channels in
-    four_placed _ _ _ _ _ (omega (arith, part_length c.args.points.now (c.args.i * c.args.channels) c.args.channels c.requires.inside))
-    (at 0 _ c.if-channels-lt1.false (sym (add-zero _)) c.a-1.given)
-    (past 1 c.requires.inside (omega arith))
-    (past 2 c.requires.inside (omega arith))
-    (past 3 c.requires.inside (omega arith))
-
-pub returns-then-channels-lt3 : goal.returns-then-channels-lt3
-returns-then-channels-lt3 c =
-    let at = count_read c.args.points.now (c.args.i * c.args.channels) c.args.channels in
-    let past = count_past c.args.points.now (c.args.i * c.args.channels) c.args.channels in
-    four_placed _ _ _ _ _ (omega (arith, part_length c.args.points.now (c.args.i * c.args.channels) c.args.channels c.requires.inside))
-    (at 0 _ c.if-channels-lt1.false (sym (add-zero _)) c.a-1.given)
-    (at 1 _ c.if-channels-lt2.false refl c.b-1.given)
-    (past 2 c.requires.inside (omega arith))
-    (past 3 c.requires.inside (omega arith))
-
-pub returns-then-channels-lt4 : goal.returns-then-channels-lt4
-returns-then-channels-lt4 c =
-    let at = count_read c.args.points.now (c.args.i * c.args.channels) c.args.channels in
-    let past = count_past c.args.points.now (c.args.i * c.args.channels) c.args.channels in
-    four_placed _ _ _ _ _ (omega (arith, part_length c.args.points.now (c.args.i * c.args.channels) c.args.channels c.requires.inside))
-    (at 0 _ c.if-channels-lt1.false (sym (add-zero _)) c.a-1.given)
-    (at 1 _ c.if-channels-lt2.false refl c.b-1.given)
-    (at 2 _ c.if-channels-lt3.false refl c.c-1.given)
-    (past 3 c.requires.inside (omega arith))
-
 pub returns : goal.returns
+unfolding placed
 returns c =
-    let at = count_read c.args.points.now (c.args.i * c.args.channels) c.args.channels in
-    four_placed _ _ _ _ _ (omega (arith, part_length c.args.points.now (c.args.i * c.args.channels) c.args.channels c.requires.inside))
-    (at 0 _ c.if-channels-lt1.false (sym (add-zero _)) c.a-1.given)
-    (at 1 _ c.if-channels-lt2.false refl c.b-1.given)
-    (at 2 _ c.if-channels-lt3.false refl c.c-1.given)
-    (at 3 _ c.if-channels-lt4.false refl c.result-1.given)
+    let a = c.args.i * c.args.channels in
+    let e : a + c.args.channels - a ≡ c.args.channels = omega arith in
+    placed_map c.map_counts.ensures (λ (z : ℤ). z) (λ z x h r. search rules)
+    ∙ ap placed (map-id (take (a + c.args.channels - a) (drop a c.args.points.now)) ∙ ap (λ (m : ℕ). take m (drop a c.args.points.now)) e)

@@ -1,0 +1,32 @@
+-- What is known of the rows around a frame, by the facts that their struct keeps.
+use mathlib.Core.Path.{◌≡◌, ap, ap₂, ◌∙◌}
+use mathlib.Core.Bool.{Bool}
+use Prim.Native.Nat.{ℕ, ◌-◌, ◌%◌, ◌^◌, ◌<◌}
+use lib.ListN.{get_or, take, drop}
+use Rattle.blocks.specs.Blocks.{width, key_of, shifted, own_block, same_nats, frame_at, row_of, row_around, own_row, bucket_at, bucket_around}
+use Rattle.blocks.specs.AroundLaws.{Rows, rows_multiple, rows_row, rows_low, rows_along}
+use Rattle.blocks.specs.OwnRowLaws.{rows_own}
+use Rattle.cells_grid.specs.declared.around.Around.{Around}
+
+module _ (a : Around) where
+  abbrev pub rows : Rows a.reach a.frames.now.v a.frames.now.n a.frames.now.points.now a.i a.first
+  rows = record { ready = a.frames.now.ready; below = a.inside; begin = a.begin; small = a.small }
+
+  pub multiple : {x : ℕ} → x ≡ width a.reach → (q : ℕ) → get_or a.first q 0 % x ≡ 0
+  multiple e q = ap (λ (z : ℕ). get_or a.first q 0 % z) e ∙ rows_multiple rows q
+
+  pub row_is : {x : ℕ} → x ≡ width a.reach → (m j : ℕ) {b : Bool} → b ≡ same_nats (key_of x (drop 1 (frame_at a.reach a.frames.now.v a.frames.now.n a.frames.now.points.now j))) (shifted x (take (a.frames.now.v.channels - 1) (drop 1 a.first)) m)
+      → b ≡ same_nats (row_of a.reach a.frames.now.v a.frames.now.n a.frames.now.points.now j) (row_around a.reach a.frames.now.v a.frames.now.n a.frames.now.points.now a.i m)
+  row_is e m j q =
+      let f = frame_at a.reach a.frames.now.v a.frames.now.n a.frames.now.points.now j in
+      q ∙ ap (λ (z : ℕ). same_nats (key_of z (drop 1 f)) (shifted z (take (a.frames.now.v.channels - 1) (drop 1 a.first)) m)) e ∙ ap (same_nats (key_of (width a.reach) (drop 1 f))) (rows_row rows m)
+
+  pub own_is : {x : ℕ} → x ≡ width a.reach → {r : ℕ} → r ≡ own_block x (drop 1 a.first) (drop 1 (frame_at a.reach a.frames.now.v a.frames.now.n a.frames.now.points.now a.i)) → r ≡ own_row a.reach a.frames.now.v a.frames.now.n a.frames.now.points.now a.i
+  own_is e q = q ∙ ap (λ (z : ℕ). own_block z (drop 1 a.first) (drop 1 (frame_at a.reach a.frames.now.v a.frames.now.n a.frames.now.points.now a.i))) e ∙ rows_own rows
+
+  pub along_low : a.along < 65536
+  along_low = rows_low rows a.block
+
+  pub bucket_is : (size m : ℕ) → m < 2 ^ (a.frames.now.v.channels - 1) → {b : ℕ} → b ≡ bucket_at size (get_or a.hashes m 0) a.along → b ≡ bucket_around a.reach a.frames.now.v a.frames.now.n a.frames.now.points.now size a.i m
+  unfolding bucket_around
+  bucket_is size m l q = q ∙ ap₂ (bucket_at size) (a.hashed m l) (a.block ∙ rows_along rows)

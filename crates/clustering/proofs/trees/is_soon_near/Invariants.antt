@@ -1,9 +1,0 @@
--- `is_soon_near` meets its contract: it ends.
-use Prim.Native.Nat.{◌-◌, ◌≤◌}
-use Rattle.clustering.proofs.trees.is_soon_near.Given as goal
-
-abbrev pub invariant-loop-j : goal.invariant-loop-j
-invariant-loop-j l = l.j ≤ 8
-
-abbrev pub decreases-loop-j : goal.decreases-loop-j
-decreases-loop-j l = 8 - l.j

@@ -1,0 +1,120 @@
+// Building the trees of the core cells, in words of one lent slice.
+ghost use Rattle.std.specs.Prelude.{◌≡◌, [], ◌∷◌, ◌+◌, ◌*◌, ◌<◌, ◌≤◌, length, get_or};
+ghost use Rattle.lists.specs.Lists.{nonzero};
+ghost use Rattle.lists.specs.Words.{over, column, Clear};
+ghost use Rattle.hyperparams.specs.Params.{levels, work_words};
+ghost use Rattle.counting_tree.specs.Given.{geometry};
+ghost use Rattle.cells_grid.specs.Arrangement.{Cored};
+ghost use Rattle.core_cells.specs.Forest.{core_among, CanGather, path_limit, tree_size, tree_words, nodes_to, forest_to, tree_word};
+
+use cells_grid::listing::TREES;
+use cells_grid::{PLACES, STARTS};
+use counting_tree::Frames;
+use hyperparams::MAX_FRAMES;
+use lists::Word;
+
+// The regions, of one word a frame: from 5n on where the tree of each cell begins, from 10n on the core frames of one cell,
+// from 11n and 12n on what building its tree needs; these three are 0 before and after. From 16n on the nodes, of four words.
+const GATHERED: usize = 10;
+
+const COPY: usize = 11;
+
+const SCRATCH: usize = 12;
+
+pub(crate) const NODES: usize = 16;
+
+// A cell with at most so many core frames has no tree in a run: its frames' own paths are taken.
+pub const PATHS: usize = 64;
+
+// With so many frames or more to a cell, on average, no tree is built at first.
+const LARGE: usize = 16;
+
+// Copies the core frames at the places from `from` up to `to`, to `at`. Returns how many there are.
+fn gather_core(work: &mut [Word], n: usize, from: usize, to: usize, at: usize) -> usize
+    requires { CanGather work.old n from to at }
+    ensures value { result ≡ length (core_among work.old n from to) }
+    ensures work_after { work.new ≡ over work.old at (core_among work.old n from to) }
+{
+    let mut m = 0;
+    for p in from..to {
+        let i = lists::word(work, PLACES * n + p);
+        if cells_grid::is_core(work, n, i) {
+            work[at + m] = i as Word;
+            m += 1;
+        }
+    }
+    m
+}
+
+// Writes the tree of cell c from `at` on, if the cell has more than `few` core frames, and the word that says where it begins:
+// 0 where it has no core frame, 1 where it has no tree. Returns the place after it.
+fn build_tree(
+    frames: &Frames,
+    k: usize,
+    work: &mut [Word],
+    few: usize,
+    c: usize,
+    at: usize,
+) -> usize
+    requires ready { Cored (geometry frames.now) k work.old }
+    requires c_lt_k { (c < k) × (at ≡ 16 * frames.now.n + 4 * nodes_to (geometry frames.now) few c) }
+    requires s_in_bounds { let f = frames.now in (work_words f.n f.v.s ≤ length work.old) × Clear work.old (10 * f.n) (3 * f.n) }
+    ensures value { result ≡ at + 4 * tree_size (geometry frames.now) few c }
+    ensures work_after { let g = geometry frames.now in work.new ≡ over (over work.old (5 * frames.now.n + c) (tree_word g few c ∷ [])) at (tree_words g few c) }
+{
+    let n = frames.n;
+    let from = lists::word(work, STARTS * n + c);
+    let to = cells_grid::cell_end(work, n, k, c);
+    let lo = GATHERED * n;
+    let m = gather_core(work, n, from, to, lo);
+    let slot = TREES * n + c;
+    if m == 0 {
+        work[slot] = 0;
+        return at;
+    }
+    if m <= few {
+        lists::clear_words(work, lo, m);
+        work[slot] = 1;
+        return at;
+    }
+    let hi = lo + m;
+    let copy = COPY * n;
+    let scratch = SCRATCH * n;
+    let next = tree_structure::build_structure(frames, work, lo, hi, copy, scratch, at);
+    lists::clear_words(work, lo, m);
+    work[slot] = (2 + (at - NODES * n) / 4) as Word;
+    next
+}
+
+// With more core frames than this a cell has a tree in a run, of k cells. None has where s is 0, since root boxes settle nearly everything then,
+// nor where there is one cell, since nothing is asked of it, nor at first where cells have sixteen frames or more on average:
+// there trees are built only if they are asked.
+pub fn path_limit(s: usize, n: usize, k: usize) -> usize
+    ensures { result ≡ path_limit (levels s) n k }
+{
+    if s == 0 || k <= 1 || k <= n / LARGE {
+        return MAX_FRAMES;
+    }
+    PATHS
+}
+
+// Writes the trees of the cells with more than `few` core frames, and where the tree of each cell begins.
+pub fn build_trees(frames: &Frames, k: usize, work: &mut [Word], few: usize)
+    requires ready { Cored (geometry frames.now) k work.old }
+    requires s_in_bounds { let f = frames.now in (work_words f.n f.v.s ≤ length work.old) × Clear work.old (10 * f.n) (3 * f.n) }
+    ensures { let g = geometry frames.now in work.new ≡ over (over work.old (5 * frames.now.n) (column (tree_word g few) k)) (16 * frames.now.n) (forest_to g few k) }
+{
+    let n = frames.n;
+    let mut at = NODES * n;
+    for c in 0..k {
+        at = build_tree(frames, k, work, few, c, at);
+    }
+}
+
+// Whether cell c is a core cell.
+pub fn is_core_cell(work: &[Word], n: usize, c: usize) -> bool
+    requires { 5 * n + c < length work.now }
+    ensures { result ≡ nonzero (get_or work.now (5 * n + c) 0) }
+{
+    lists::word(work, TREES * n + c) != 0
+}

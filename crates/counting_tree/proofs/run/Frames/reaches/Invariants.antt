@@ -1,0 +1,6 @@
+-- What the path says from the level on is what it says from the root.
+use Rattle.counting_tree.proofs.Walk.{Walking}
+use Rattle.counting_tree.proofs.run.Frames.reaches.Given as goal
+
+abbrev pub invariant-loop-left : goal.invariant-loop-left
+invariant-loop-left l = Walking l.self.points.now l.self.v l.self.n l.q l.x l.side l.left
