@@ -53,14 +53,16 @@ impl CoreCells<'_> {
         ensures value { let f = self.now.frames in result ≡ least_until (f.v.t * f.v.t) (N f.v (frame_list f) q) beyond (tree_frames (geometry f) c) }
         ensures bound { result ≤ beyond }
     {
-        let enough = self.frames.v.t * self.frames.v.t;
+        // a copy, which the loop keeps in registers
+        let frames = self.frames;
+        let enough = frames.v.t * frames.v.t;
         let mut least = BEYOND;
         for x in self.frames_of(c) {
             let x = *x as usize;
             if !self.is_core(x) {
                 continue;
             }
-            let apart = self.frames.square_apart(q, x);
+            let apart = frames.square_apart(q, x);
             if apart < enough {
                 return apart;
             }
