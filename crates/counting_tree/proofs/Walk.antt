@@ -41,19 +41,19 @@ pub record Walking (ps : List ℤ) (v : ValidParams) (n q x : ℕ) (y : Float) (
 
 module _ {ps : List ℤ} {v : ValidParams} {n q x : ℕ} where
   -- it begins below the root, whose box is Intersecting
-  pub walk_start : {y z : Float} → (geometry_at v n ps).box q 0 x ≡ Intersecting → y ≡ side_at v.channels v.tolerance 0 → z ≡ half y → Walking ps v n q x z v.s
-  walk_start {y} i e f = record {
+  pub walk_start : {y z : Float} → (geometry_at v n ps).box q 0 x ≡ Intersecting → y ≡ side_at v.channels v.tolerance 0 → z ≡ half y → {left : ℕ} → left ≡ v.s → Walking ps v n q x z left
+  walk_start {y} i e f {left} h = record {
     level = 1;
     depth = omega arith;
     side = next_side _ _ 0 y _ e f;
     path =
-        ap (λ (k : ℕ). reaches ((geometry_at v n ps).box q) k 1 x) (less v.s)
+        ap (λ (k : ℕ). reaches ((geometry_at v n ps).box q) k 1 x) (less left v.s h)
         ∙ on_inner ((geometry_at v n ps).box q) x (1 + v.s) 0 (omega arith) i
         ∙ ap (λ (k : ℕ). reaches ((geometry_at v n ps).box q) k 0 x) (sym (at_levels v n ps));
   }
     where
-      less : (s : ℕ) → s ≡ 1 + s - 1
-      less s = omega arith
+      less : (l s : ℕ) → l ≡ s → l ≡ 1 + s - 1
+      less l s h = omega arith
 
   module _ (r : Ready ps v n) {y : Float} {left : ℕ} (W : Walking ps v n q x y left) where
     pub walk_side : LevelSide v y
@@ -73,10 +73,12 @@ module _ {ps : List ℤ} {v : ValidParams} {n q x : ℕ} where
       pub walk_last : b ≡ Intersecting → left ≤ 0 → true ≡ reaches ((geometry_at v n ps).box q) (geometry_at v n ps).levels 0 x
       walk_last t h = on_last ((geometry_at v n ps).box q) x left W.level h (first t) ∙ W.path
 
-      pub walk_on : b ≡ Intersecting → 0 < left → {z : Float} → z ≡ half y → Walking ps v n q x z (left - 1)
-      walk_on t h f = record {
+      pub walk_on : b ≡ Intersecting → {m : ℕ} → m + 1 ≡ left → {z : Float} → z ≡ half y → Walking ps v n q x z m
+      walk_on t {m} h f = record {
         level = W.level + 1;
         depth = omega (arith, W.depth);
         side = next_side _ _ W.level y _ W.side f;
-        path = on_inner ((geometry_at v n ps).box q) x left W.level h (first t) ∙ W.path;
+        path =
+            ap (λ (k : ℕ). reaches ((geometry_at v n ps).box q) k (W.level + 1) x) (omega arith)
+            ∙ on_inner ((geometry_at v n ps).box q) x left W.level (omega arith) (first t) ∙ W.path;
       }

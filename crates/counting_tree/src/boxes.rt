@@ -35,26 +35,14 @@ pub fn square_sum(q: [f64; 4], p: [f64; 4], channels: usize) -> f64
     requires { channels ≤ 4 }
     ensures { result ≡ sum_from (float 0) (take channels q) (take channels p) }
 {
-    if channels < 1 {
-        return 0.0;
+    let mut sum = 0.0f64;
+    for k in 0..4 {
+        if k < channels {
+            let apart = q[k] - p[k];
+            sum = sum + apart * apart;
+        }
     }
-    let a = q[0] - p[0];
-    let one = 0.0 + a * a;
-    if channels < 2 {
-        return one;
-    }
-    let b = q[1] - p[1];
-    let two = one + b * b;
-    if channels < 3 {
-        return two;
-    }
-    let c = q[2] - p[2];
-    let three = two + c * c;
-    if channels < 4 {
-        return three;
-    }
-    let d = q[3] - p[3];
-    three + d * d
+    sum
 }
 
 // "Distance: .., then the root."
@@ -72,14 +60,9 @@ fn corner(centre: [f64; 4], e: f64, channels: usize, k: usize) -> [f64; 4]
 {
     let mut row = centre;
     let mut bits = k;
-    for i in 0..channels {
-        let c = centre[i];
-        if bits % 2 == 0 {
-            row[i] = c - e;
-        } else {
-            row[i] = c + e;
-        }
-        bits = bits / 2;
+    for c in &mut row[..channels] {
+        *c = if bits % 2 == 0 { *c - e } else { *c + e };
+        bits /= 2;
     }
     row
 }
@@ -113,8 +96,8 @@ pub fn farthest_corner(q: [f64; 4], all: [[f64; 4]; 16], channels: usize) -> f64
 {
     let mut far = 0.0f64;
     let n = corner_count(channels);
-    for k in 0..n {
-        let sum = square_sum(q, all[k], channels);
+    for row in &all[..n] {
+        let sum = square_sum(q, *row, channels);
         if far < sum {
             far = sum;
         }

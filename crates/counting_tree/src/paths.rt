@@ -15,7 +15,7 @@ impl Frames<'_> {
         ensures { let g = geometry self.now in result ≡ Paths.reaches (g.box q) g.levels 0 x }
     {
         let mut side = half_side(base_side(self.v.tolerance, self.v.channels));
-        for left in (0..self.v.s).rev() {
+        for _ in 0..self.v.s {
             match self.classify(q, side, x) {
                 IntersectionType::Disjoint => {
                     return false;

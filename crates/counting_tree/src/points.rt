@@ -82,27 +82,22 @@ impl Frames<'_> {
         ensures bound { result ≤ 2 ^ 34 }
         ensures counts { let fs = frame_list self.now in Counts (frame self.now.v fs i) × Counts (frame self.now.v fs j) }
     {
-        let a = i * self.v.channels;
-        let b = j * self.v.channels;
-        let one = square(self.points[a], self.points[b]);
-        if self.v.channels < 2 {
-            return one;
+        let a = self.frame(i);
+        let b = self.frame(j);
+        let mut sum = 0;
+        for k in 0..4 {
+            if k < self.v.channels {
+                sum += square(a[k], b[k]);
+            }
         }
-        let two = one + square(self.points[a + 1], self.points[b + 1]);
-        if self.v.channels < 3 {
-            return two;
-        }
-        let three = two + square(self.points[a + 2], self.points[b + 2]);
-        if self.v.channels < 4 {
-            return three;
-        }
-        three + square(self.points[a + 3], self.points[b + 3])
+        sum
     }
 
     // Frame i.
     pub fn frame(&self, i: usize) -> &[i16]
         requires { i < self.now.n }
         ensures value { result.now ≡ frame_of self.now i }
+        ensures long { length result.now ≡ self.now.v.channels }
         ensures few { length result.now ≤ 4 }
     {
         let start = i * self.v.channels;
@@ -122,26 +117,13 @@ impl Frames<'_> {
         requires { (j < self.now.n) × Side side }
         ensures { result ≡ same_ints (take self.now.v.channels at) (indexes side (frame_of self.now j)) }
     {
-        let start = j * self.v.channels;
-        if cell_index(side, self.points[start]) != at[0] {
-            return false;
+        let frame = self.frame(j);
+        for k in 0..4 {
+            if k < self.v.channels && cell_index(side, frame[k]) != at[k] {
+                return false;
+            }
         }
-        if self.v.channels < 2 {
-            return true;
-        }
-        if cell_index(side, self.points[start + 1]) != at[1] {
-            return false;
-        }
-        if self.v.channels < 3 {
-            return true;
-        }
-        if cell_index(side, self.points[start + 2]) != at[2] {
-            return false;
-        }
-        if self.v.channels < 4 {
-            return true;
-        }
-        cell_index(side, self.points[start + 3]) == at[3]
+        true
     }
 }
 
@@ -166,22 +148,15 @@ impl Frames<'_> {
         requires { j < self.now.n }
         ensures { result ≡ near_box (reach place.side) (take self.now.v.channels place.centre) (frame_of self.now j) }
     {
-        let start = j * self.v.channels;
+        let frame = self.frame(j);
         let reach = half_side(place.side) + 1.0;
-        let centre = place.centre;
-        let one = off(self.points[start], centre[0], reach);
-        if self.v.channels < 2 {
-            return one == 0;
+        let mut far = 0;
+        for k in 0..4 {
+            if k < self.v.channels {
+                far += off(frame[k], place.centre[k], reach);
+            }
         }
-        let two = one + off(self.points[start + 1], centre[1], reach);
-        if self.v.channels < 3 {
-            return two == 0;
-        }
-        let three = two + off(self.points[start + 2], centre[2], reach);
-        if self.v.channels < 4 {
-            return three == 0;
-        }
-        three + off(self.points[start + 3], centre[3], reach) == 0
+        far == 0
     }
 
     // Whether frame j has the indexes `at` at the side of `place`, which is their box: a frame that is not near the box has not, and no index has to be worked out.

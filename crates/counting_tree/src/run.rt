@@ -19,8 +19,8 @@ pub struct Frames<'a> {
 pub fn read_counts(points: &[i16]) -> usize
     ensures { (result ≡ length points.now) × Counts points.now }
 {
-    for i in 0..points.len() {
-        let count = points[i];
+    for count in points {
+        let read = *count;
     }
     points.len()
 }

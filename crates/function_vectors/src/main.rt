@@ -8,15 +8,12 @@ ghost use Rattle.std.specs.Prelude.{◌≡◌, ◌+◌, ◌<◌, ◌≤◌, ◌^
 
 use counting_tree::{Box, IntersectionType};
 use hexadecimal::{number, signed};
+use ieee754::{INFINITY, SIGN_BIT};
 use std::io;
 
 const LINE: usize = 137;
 
 const MAX_LINES: usize = 1000000;
-
-const SIGN_BIT: u64 = 9223372036854775808;
-
-const INFINITY: u64 = 9218868437227405312;
 
 const NAN: u64 = 9221120237041090560;
 
@@ -27,14 +24,16 @@ enum Call {
     Intersection,
 }
 
-impl Call {
-    // The call of a line, by its first letter.
-    fn of(line: &[u8; LINE]) -> Option<Call> {
-        match line[0] {
-            b'r' => Some(Call::Root),
-            b'i' => Some(Call::Index),
-            b'b' => Some(Call::Intersection),
-            _ => None,
+// By the first letter of a line.
+impl TryFrom<u8> for Call {
+    type Error = u8;
+
+    fn try_from(letter: u8) -> Result<Call, u8> {
+        match letter {
+            b'r' => Ok(Call::Root),
+            b'i' => Ok(Call::Index),
+            b'b' => Ok(Call::Intersection),
+            _ => Err(letter),
         }
     }
 }
@@ -156,11 +155,11 @@ fn main(rt: HostRuntime) -> io::Result<()> {
         if streams::read_full(&mut rt.stdin(), &mut line)? < LINE {
             break;
         }
-        match Call::of(&line) {
-            Some(Call::Root) => roots.add(root_agrees(&line)),
-            Some(Call::Index) => indexes.add(index_agrees(&line)),
-            Some(Call::Intersection) => boxes.add(intersection_agrees(&line)),
-            None => {}
+        match Call::try_from(line[0]) {
+            Ok(Call::Root) => roots.add(root_agrees(&line)),
+            Ok(Call::Index) => indexes.add(index_agrees(&line)),
+            Ok(Call::Intersection) => boxes.add(intersection_agrees(&line)),
+            Err(_) => {}
         }
     }
     report(&rt, roots, "roots")?;

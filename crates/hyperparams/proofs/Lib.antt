@@ -1,2 +1,3 @@
 pub mod Tolerance
 pub mod Rows
+pub mod Slack

@@ -31,6 +31,16 @@ pub record Framed (p : Params) (t s points : ℕ) : Type 0 where
   pub even : points % p.channels ≡ 0
   pub few : points / p.channels ≤ max_frames
 
+-- the records from what the tests say, for the search
+pub source_by : {p : Params} → 1 < p.min_points → le p.tolerance (float 0) ≡ false → le p.slack (float 0) ≡ false → Source p
+source_by a b c = record { points = a; tolerance = b; slack = c }
+
+pub settled_by : {p : Params} {t s : ℕ} → Source p → whole_tolerance_of p.tolerance ≡ Some t → slack_power_of p.slack ≡ Some s → Settled p t s
+settled_by a b c = record { source = a; t_is = b; s_is = c }
+
+pub framed_by : {p : Params} {t s points : ℕ} → Settled p t s → 1 ≤ p.channels → p.channels ≤ 4 → points % p.channels ≡ 0 → points / p.channels ≤ max_frames → Framed p t s points
+framed_by a b c d e = record { settled = a; low = b; high = c; even = d; few = e }
+
 power_some : (x : Float) (s : ℕ) → slack_power_of x ≡ Some s → (slack_power x ≤ max_power) × (slack_power x ≡ s)
 power_some x s e = let h = cond_some (nat_le (slack_power x) max_power) (slack_power x) s e in (leb-true (slack_power x) max_power h.0, h.1)
 

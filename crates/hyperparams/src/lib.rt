@@ -2,6 +2,7 @@
 #![tactic(auto)]
 
 ghost use Rattle.std.specs.Prelude.{◌≡◌, ◌≤◌, Some};
+ghost use Rattle.hyperparams.specs.Params as Definitions;
 ghost use Rattle.hyperparams.specs.Params.{whole_tolerance_of, slack_power_of, appx_tolerance_of, work_words, max_frames, max_power, checked_of, number_of, text_of};
 
 use std::error::Error;
@@ -104,18 +105,19 @@ fn whole_tolerance(tolerance: f64) -> Option<u64>
     None
 }
 
+// "1 divided by 2 to the power s"
+fn slack_at(s: usize) -> f64
+    requires { s ≤ max_power }
+    ensures { result ≡ Definitions.slack_at s }
+{
+    1.0 / ((1u64 << s) as f64)
+}
+
 // "The slack is an f64 equal to 1 divided by 2 to the power s, s from 0 to 10": that s, if there is one.
 fn slack_power(slack: f64) -> Option<usize>
     ensures { result ≡ slack_power_of slack }
 {
-    let mut power: u64 = 1;
-    for s in 0..=MAX_POWER {
-        if slack == 1.0 / (power as f64) {
-            return Some(s);
-        }
-        power *= 2;
-    }
-    None
+    (0..MAX_POWER + 1).find(|s| slack == slack_at(*s))
 }
 
 // "Extended tolerance = t × (1 + slack)"

@@ -10,20 +10,19 @@ ghost use Rattle.ieee754.specs.Nearest.{nearest_root};
 ghost use Rattle.ieee754.specs.Ceil.{ceil};
 ghost use Rattle.ieee754.specs.Small.{Small};
 
-// 2^8.
-const POWER_8: u64 = 256;
-// 2^16.
-const POWER_16: u64 = 65536;
-// 2^22.
-const POWER_22: u64 = 4194304;
-// 2^32.
-const POWER_32: u64 = 4294967296;
-// The weight of the exponent's field, 2^52: also the leading digit of a normal significand, which the bits leave out.
-const HIDDEN_BIT: u64 = 4503599627370496;
-// The sign's bit, 2^63.
-const SIGN_BIT: u64 = 9223372036854775808;
-// The bits of positive infinity, 2047 * 2^52.
-const INFINITY: u64 = 9218868437227405312;
+const POWER_8: u64 = 1 << 8;
+
+const POWER_16: u64 = 1 << 16;
+
+const POWER_22: u64 = 1 << 22;
+
+const POWER_32: u64 = 1 << 32;
+// The weight of the exponent's field: also the leading digit of a normal significand, which the bits leave out.
+const HIDDEN_BIT: u64 = 1 << 52;
+// The sign's bit.
+pub const SIGN_BIT: u64 = 1 << 63;
+// The bits of positive infinity.
+pub const INFINITY: u64 = 2047 << 52;
 
 // The first eight digits: the whole root of n, by halving. (`isqrt` makes a root take half as long again.)
 fn first_digits(n: u64) -> u64

@@ -10,19 +10,12 @@ pub mod sorting;
 // A number of the work memory.
 pub type Word = u16;
 
-// The number of a word.
-pub fn wide(x: Word) -> usize
-    ensures { result ≡ x }
-{
-    usize::from(x)
-}
-
 // The word at `at`.
 pub fn word(work: &[Word], at: usize) -> usize
     requires { at < length work.now }
     ensures { result ≡ get_or work.now at 0 }
 {
-    wide(work[at])
+    usize::from(work[at])
 }
 
 // Copies the `m` words from `from` on to `to`.

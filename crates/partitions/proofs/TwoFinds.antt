@@ -24,14 +24,8 @@ module _ {p : List ℕ} (f : Falling p) (a : ℕ) (ha : a < length p) {q : List 
     one_set = ap₂ eqb first-root own_root
 
     -- the lower answer in the word of the higher
-    by_roots : {h l : ℕ} → max x y ≡ h → min x y ≡ l → set s h l ≡ united (shorten_both p a b) a b
+    pub lower_leads : {h l : ℕ} → h ≡ max x y → l ≡ min x y → set s h l ≡ united (shorten_both p a b) a b
     unfolding united
-    by_roots {h} {l} i j =
+    lower_leads {h} {l} i j =
         let t = both_stand (own_stands f) a b ha hb in
-        rw (t.roots a ha, t.roots b hb, ← first-root, ← own_root, i, j) (ap (λ (z : List ℕ). set z h l) both_left)
-
-    pub lower_first : x < y → set s y x ≡ united (shorten_both p a b) a b
-    lower_first h = by_roots (omega arith) (omega arith)
-
-    pub lower_second : y ≤ x → set s x y ≡ united (shorten_both p a b) a b
-    lower_second h = by_roots (omega arith) (omega arith)
+        rw (t.roots a ha, t.roots b hb, ← first-root, ← own_root, ← i, ← j) (ap (λ (z : List ℕ). set z h l) both_left)

@@ -51,9 +51,5 @@ pub fn union(leaders: &mut [Word], a: usize, b: usize)
 {
     let x = find(leaders, a);
     let y = find(leaders, b);
-    if x < y {
-        leaders[y] = x as Word;
-    } else {
-        leaders[x] = y as Word;
-    }
+    leaders[x.max(y)] = x.min(y) as Word;
 }

@@ -12,4 +12,5 @@ returns c =
     let a = c.args.i * f.v.channels in
     let e : a + f.v.channels - a ≡ f.v.channels = omega arith in
     let v = ap (λ (m : ℕ). take m (drop a f.points.now)) e ∙ sym (frame_at f.n f.v.channels f.points.now c.args.i c.requires) in
-    record { value = v; few = omega (arith, ap length v, frame_length f.n f.v.channels f.points.now c.args.i f.ready.room c.requires, f.ready.settings.scale.most) }
+    let l = ap length v ∙ frame_length f.n f.v.channels f.points.now c.args.i f.ready.room c.requires in
+    record { value = v; long = l; few = omega (arith, l, f.ready.settings.scale.most) }

@@ -1,40 +1,39 @@
 -- Channel by channel, until one differs or none is left.
-use mathlib.Core.Path.{refl, sym, ◌∙◌}
-use native.Mathlib.Nat.{add-zero}
+use mathlib.Core.Path.{ap, ◌∙◌}
+use mathlib.Core.List.{List}
 use native.Mathlib.Omega.{arith}
-use Rattle.counting_tree.proofs.Lent.{some_channels}
-use Rattle.counting_tree.proofs.Same.{agrees, differs, settles, all_agree}
+use lib.IntN.{ℤ, pos}
+use lib.ListN.{get_or, take}
+use lib.Signed.{mag}
+use Prim.Native.Nat.{◌<◌, ◌^◌}
+use Rattle.counting_tree.specs.Domain.{Count}
+use Rattle.counting_tree.specs.Grid.{indexes}
+use Rattle.counting_tree.specs.Geometry.{same_ints}
+use Rattle.counting_tree.proofs.Same.{agrees, agrees_past, differs, all_agree}
 use Rattle.counting_tree.proofs.run.Frames.has_indexes.Goals as goal
+use Rattle.counting_tree.proofs.run.Frames.has_indexes.Goals.{else-k-self-via-then-k-self+else-cell_index-at, else-k-self-via-else-k-self}
 
 pub returns-then-cell_index-at : goal.returns-then-cell_index-at
-returns-then-cell_index-at c = differs c.args.self.now.ready c.args.side c.requires.1 c.args.j c.requires.0 0 _ (some_channels c.args.self.now.ready).0 (sym (add-zero _)) c.cell_index-arg-1.given c.cell_index.result c.cell_index.ensures c.args.at c.well_formed.1.1.0.1.0.1 c.t13-1.given c.if-cell_index-at.true
+returns-then-cell_index-at c =
+    let h : Count (get_or c.frame-frame.result.now c.loop-k.k (pos 0)) = omega arith in
+    let a : mag (get_or c.args.at c.loop-k.k (pos 0)) < 2 ^ 63 = omega arith in
+    differs c.args.self.now.v.channels c.args.side c.args.at c.frame-frame.result.now c.args.self.now.ready.settings.scale.most c.well_formed.1.1.0.1.0.1 c.frame-frame.ensures.long c.loop-k.k c.if-k-self.true h
+    c.cell_index.result c.cell_index.ensures c.cell_index.type_inv a c.if-cell_index-at.true
+    ∙ c.loop-k.invariant ∙ ap (λ (xs : List ℤ). same_ints (take c.args.self.now.v.channels c.args.at) (indexes c.args.side xs)) c.frame-frame.ensures.value
 
-pub returns-then-self-lt2 : goal.returns-then-self-lt2
-returns-then-self-lt2 c = all_agree c.args.self.now.ready c.args.side c.requires.1 c.args.j c.requires.0 c.args.at c.well_formed.1.1.0.1.0.1 1 (omega (arith, c.if-self-lt2.true))
-    ∙ agrees c.args.self.now.ready c.args.side c.requires.1 c.args.j c.requires.0 0 _ (some_channels c.args.self.now.ready).0 (sym (add-zero _)) c.cell_index-arg-1.given c.cell_index.result c.cell_index.ensures c.args.at c.well_formed.1.1.0.1.0.1 c.t13-1.given c.if-cell_index-at.false
-
-pub returns-then-cell_index-at-2 : goal.returns-then-cell_index-at-2
-returns-then-cell_index-at-2 c = differs c.args.self.now.ready c.args.side c.requires.1 c.args.j c.requires.0 1 _ c.if-self-lt2.false refl c.cell_index-arg-2-1.given c.cell_index-2.result c.cell_index-2.ensures c.args.at c.well_formed.1.1.0.1.0.1 c.t13-2-1.given c.if-cell_index-at-2.true
-    ∙ agrees c.args.self.now.ready c.args.side c.requires.1 c.args.j c.requires.0 0 _ (some_channels c.args.self.now.ready).0 (sym (add-zero _)) c.cell_index-arg-1.given c.cell_index.result c.cell_index.ensures c.args.at c.well_formed.1.1.0.1.0.1 c.t13-1.given c.if-cell_index-at.false
-
-pub returns-then-self-lt3 : goal.returns-then-self-lt3
-returns-then-self-lt3 c = all_agree c.args.self.now.ready c.args.side c.requires.1 c.args.j c.requires.0 c.args.at c.well_formed.1.1.0.1.0.1 2 (omega (arith, c.if-self-lt3.true))
-    ∙ agrees c.args.self.now.ready c.args.side c.requires.1 c.args.j c.requires.0 1 _ c.if-self-lt2.false refl c.cell_index-arg-2-1.given c.cell_index-2.result c.cell_index-2.ensures c.args.at c.well_formed.1.1.0.1.0.1 c.t13-2-1.given c.if-cell_index-at-2.false
-    ∙ agrees c.args.self.now.ready c.args.side c.requires.1 c.args.j c.requires.0 0 _ (some_channels c.args.self.now.ready).0 (sym (add-zero _)) c.cell_index-arg-1.given c.cell_index.result c.cell_index.ensures c.args.at c.well_formed.1.1.0.1.0.1 c.t13-1.given c.if-cell_index-at.false
-
-pub returns-then-cell_index-at-3 : goal.returns-then-cell_index-at-3
-returns-then-cell_index-at-3 c = differs c.args.self.now.ready c.args.side c.requires.1 c.args.j c.requires.0 2 _ c.if-self-lt3.false refl c.cell_index-arg-3-1.given c.cell_index-3.result c.cell_index-3.ensures c.args.at c.well_formed.1.1.0.1.0.1 c.t13-3-1.given c.if-cell_index-at-3.true
-    ∙ agrees c.args.self.now.ready c.args.side c.requires.1 c.args.j c.requires.0 1 _ c.if-self-lt2.false refl c.cell_index-arg-2-1.given c.cell_index-2.result c.cell_index-2.ensures c.args.at c.well_formed.1.1.0.1.0.1 c.t13-2-1.given c.if-cell_index-at-2.false
-    ∙ agrees c.args.self.now.ready c.args.side c.requires.1 c.args.j c.requires.0 0 _ (some_channels c.args.self.now.ready).0 (sym (add-zero _)) c.cell_index-arg-1.given c.cell_index.result c.cell_index.ensures c.args.at c.well_formed.1.1.0.1.0.1 c.t13-1.given c.if-cell_index-at.false
-
-pub returns-then-self-lt4 : goal.returns-then-self-lt4
-returns-then-self-lt4 c = all_agree c.args.self.now.ready c.args.side c.requires.1 c.args.j c.requires.0 c.args.at c.well_formed.1.1.0.1.0.1 3 (omega (arith, c.if-self-lt4.true))
-    ∙ agrees c.args.self.now.ready c.args.side c.requires.1 c.args.j c.requires.0 2 _ c.if-self-lt3.false refl c.cell_index-arg-3-1.given c.cell_index-3.result c.cell_index-3.ensures c.args.at c.well_formed.1.1.0.1.0.1 c.t13-3-1.given c.if-cell_index-at-3.false
-    ∙ agrees c.args.self.now.ready c.args.side c.requires.1 c.args.j c.requires.0 1 _ c.if-self-lt2.false refl c.cell_index-arg-2-1.given c.cell_index-2.result c.cell_index-2.ensures c.args.at c.well_formed.1.1.0.1.0.1 c.t13-2-1.given c.if-cell_index-at-2.false
-    ∙ agrees c.args.self.now.ready c.args.side c.requires.1 c.args.j c.requires.0 0 _ (some_channels c.args.self.now.ready).0 (sym (add-zero _)) c.cell_index-arg-1.given c.cell_index.result c.cell_index.ensures c.args.at c.well_formed.1.1.0.1.0.1 c.t13-1.given c.if-cell_index-at.false
+pub loop-k-preserved : goal.loop-k-preserved
+loop-k-preserved c = elim c.else-k-self.branch [
+  | else-k-self-via-then-k-self+else-cell_index-at w ↦
+      let h : Count (get_or c.frame-frame.result.now c.loop-k.k (pos 0)) = omega arith in
+      let a : mag (get_or c.args.at c.loop-k.k (pos 0)) < 2 ^ 63 = omega arith in
+      agrees c.args.self.now.v.channels c.args.side c.args.at c.frame-frame.result.now c.args.self.now.ready.settings.scale.most c.well_formed.1.1.0.1.0.1 c.frame-frame.ensures.long c.loop-k.k w.if-k-self.true h
+      w.cell_index.result w.cell_index.ensures w.cell_index.type_inv a w.if-cell_index-at.false
+      ∙ c.loop-k.invariant
+  | else-k-self-via-else-k-self w ↦
+      agrees_past c.args.self.now.v.channels c.args.side c.args.at c.frame-frame.result.now c.args.self.now.ready.settings.scale.most c.well_formed.1.1.0.1.0.1 c.frame-frame.ensures.long c.loop-k.k w.if-k-self.false ∙ c.loop-k.invariant
+]
 
 pub returns : goal.returns
-returns c = settles c.args.self.now.ready c.args.side c.requires.1 c.args.j c.requires.0 3 _ c.if-self-lt4.false refl c.cell_index-arg-4-1.given c.cell_index-4.result c.cell_index-4.ensures c.args.at c.well_formed.1.1.0.1.0.1 c.result-1.given (some_channels c.args.self.now.ready).1
-    ∙ agrees c.args.self.now.ready c.args.side c.requires.1 c.args.j c.requires.0 2 _ c.if-self-lt3.false refl c.cell_index-arg-3-1.given c.cell_index-3.result c.cell_index-3.ensures c.args.at c.well_formed.1.1.0.1.0.1 c.t13-3-1.given c.if-cell_index-at-3.false
-    ∙ agrees c.args.self.now.ready c.args.side c.requires.1 c.args.j c.requires.0 1 _ c.if-self-lt2.false refl c.cell_index-arg-2-1.given c.cell_index-2.result c.cell_index-2.ensures c.args.at c.well_formed.1.1.0.1.0.1 c.t13-2-1.given c.if-cell_index-at-2.false
-    ∙ agrees c.args.self.now.ready c.args.side c.requires.1 c.args.j c.requires.0 0 _ (some_channels c.args.self.now.ready).0 (sym (add-zero _)) c.cell_index-arg-1.given c.cell_index.result c.cell_index.ensures c.args.at c.well_formed.1.1.0.1.0.1 c.t13-1.given c.if-cell_index-at.false
+returns c =
+    all_agree c.args.self.now.v.channels c.args.side c.args.at c.frame-frame.result.now c.args.self.now.ready.settings.scale.most c.well_formed.1.1.0.1.0.1 c.frame-frame.ensures.long c.loop-k.k (let m = c.args.self.now.ready.settings.scale.most in omega arith)
+    ∙ c.loop-k.invariant ∙ ap (λ (xs : List ℤ). same_ints (take c.args.self.now.v.channels c.args.at) (indexes c.args.side xs)) c.frame-frame.ensures.value
