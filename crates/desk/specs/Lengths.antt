@@ -5,7 +5,7 @@ use Rattle.std.proofs.Math.Bool.{and-eq-true_iff}
 use Rattle.desk.specs.Desk.{is_line, are_lines, line_one, channels_of, frame_count, most_frames, well_formed, parsed, refusal_line, answer_to, desk_of}
 
 -- where n lines of k digits end
-lines_end : (bs : List ℕ) (k n at : ℕ) → are_lines bs k n at ≡ true → length bs ≡ at + n * (k + 1)
+pub lines_end : (bs : List ℕ) (k n at : ℕ) → are_lines bs k n at ≡ true → length bs ≡ at + n * (k + 1)
 lines_end bs k zero at e = let h = eqb-true at (length bs) e in omega (arith, suc-mul 0 (k + 1))
 lines_end bs k (suc n) at e = omega (arith, lines_end bs k n (at + k + 1) ((and-eq-true_iff (is_line bs at k) (are_lines bs k n (at + k + 1))).0 e).1, suc-mul n (k + 1))
 

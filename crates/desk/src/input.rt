@@ -1,9 +1,8 @@
 // The input: "lowercase hexadecimal, each line ended by a line feed".
-ghost use Rattle.std.specs.Prelude.{◌≡◌, ◌+◌, ◌≤◌, ◌<◌, length, get_or};
-ghost use Rattle.hexadecimal.specs.Hexadecimal.{is_digit};
-ghost use Rattle.lists.specs.Words.{over, column};
+ghost use Rattle.std.specs.Prelude.{◌≡◌, ◌-◌, ◌/◌, ◌≤◌, ◌<◌, length};
+ghost use Rattle.lists.specs.Words.{column};
 ghost use Rattle.hyperparams.specs.Params.{slack_at};
-ghost use Rattle.desk.specs.Desk.{is_line, are_lines, channels_of, frame_count, most_frames, well_formed, count_at, parsed, settings_of};
+ghost use Rattle.desk.specs.Desk.{is_line, are_lines, channels_of, frame_count, well_formed, count_at, parsed, settings_of};
 
 use hexadecimal::{digit, number, signed};
 use hyperparams::Params;
@@ -18,46 +17,22 @@ pub const MAX_FRAMES: usize = 256;
 
 pub const MAX_POINTS: usize = MAX_FRAMES * hyperparams::MAX_CHANNELS;
 
-// The byte at a place, 0 past the end.
-fn byte(input: &[u8], at: usize) -> u8
-    ensures { result ≡ get_or input.now at 0 }
+// Whether a line is of digits, with a line feed after them.
+fn is_line(line: &[u8]) -> bool
+    ensures { result ≡ is_line line.now 0 (length line.now - 1) }
 {
-    input.get(at).copied().unwrap_or(0)
-}
-
-fn is_digit(b: u8) -> bool
-    ensures { result ≡ is_digit b }
-{
-    digit(b).is_some()
-}
-
-// Whether a line of k digits stands at a place.
-fn is_line(input: &[u8], at: usize, k: usize) -> bool
-    requires { at + k ≤ 8192 }
-    ensures { result ≡ is_line input.now at k }
-{
-    let end = at + k;
-    for i in at..end {
-        if !is_digit(byte(input, i)) {
-            return false;
-        }
+    match line.split_last() {
+        Some((end, digits)) => digits.iter().all(|b| digit(*b).is_some()) && *end == LINE_FEED,
+        None => false,
     }
-    byte(input, end) == LINE_FEED
 }
 
-// Whether n lines of k digits stand from a place on, and then the input ends.
-fn are_lines(input: &[u8], k: usize, n: usize, from: usize) -> bool
-    requires { (k ≤ 16) × ((n ≤ most_frames) × (from ≤ 13)) }
-    ensures { result ≡ are_lines input.now k n from }
+// Whether a text is lines of so many bytes.
+fn are_lines(text: &[u8], size: usize) -> bool
+    requires { 0 < size }
+    ensures { result ≡ are_lines text.now (size - 1) (length text.now / size) 0 }
 {
-    let mut at = from;
-    for _ in 0..n {
-        if !is_line(input, at, k) {
-            return false;
-        }
-        at = at + k + 1;
-    }
-    at == input.len()
+    text.chunks_exact(size).all(is_line) && text.len() % size == 0
 }
 
 // The channels of line one.
@@ -80,18 +55,14 @@ pub(crate) fn frame_count(input: &[u8]) -> usize
 pub(crate) fn well_formed(input: &[u8]) -> bool
     ensures { result ≡ well_formed input.now }
 {
-    if !is_line(input, 0, LINE_ONE) {
+    let Some((first, frames)) = input.split_at_checked(LINE_ONE + 1) else {
         return false;
-    }
+    };
     let d = channels(input);
-    if d < 1 || d > 4 {
-        return false;
-    }
-    let n = frame_count(input);
-    if n > MAX_FRAMES {
-        return false;
-    }
-    are_lines(input, 4 * d, n, LINE_ONE + 1)
+    is_line(first)
+        && (1..=4).contains(&d)
+        && frame_count(input) <= MAX_FRAMES
+        && are_lines(frames, 4 * d + 1)
 }
 
 // Count i of the frames of d channels.
@@ -114,15 +85,10 @@ pub(crate) fn read_points(input: &[u8], d: usize, points: &mut [i16])
 }
 
 // "The slack is an f64 equal to 1 divided by 2 to the power s", for any two digits of s.
-fn slack(s: usize) -> f64
-    requires { s < 256 }
+fn slack(s: u8) -> f64
     ensures { result ≡ slack_at s }
 {
-    let mut power: f64 = 1.0;
-    for _ in 0..s {
-        power = power * 2.0;
-    }
-    1.0 / power
+    1.0 / f64::powi(2.0, i32::from(s))
 }
 
 // The settings of line one.
@@ -134,6 +100,6 @@ pub(crate) fn settings(input: &[u8]) -> Params
         channels: channels(input),
         min_points: number(input, 2, 4) as usize,
         tolerance: (number(input, 6, 4) as u16) as f64,
-        slack: slack(number(input, 10, 2) as usize),
+        slack: slack(number(input, 10, 2) as u8),
     }
 }

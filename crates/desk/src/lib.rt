@@ -2,13 +2,16 @@
 #![tactic(auto)]
 
 mod input;
+mod outcome;
 mod output;
 
 ghost use Rattle.std.specs.Prelude.{◌≡◌, true, ◌≤◌, length};
 ghost use Rattle.lists.specs.Words.{over};
-ghost use Rattle.desk.specs.Desk.{well_formed, parsed, answer_to, desk_of, most_bytes};
+ghost use Rattle.desk.specs.Desk.{desk_of, most_bytes};
+ghost use Rattle.desk.specs.Outcomes.{lines_after};
 
 use input::{MAX_FRAMES, MAX_POINTS};
+use outcome::{Failure, Labelled};
 use std::marker::Model;
 
 // The longest output: a line of 7 bytes for each frame, and 9 for the last line.
@@ -51,38 +54,42 @@ impl Printed {
     }
 }
 
-// The run of a well-formed input, and its answer or refusal.
+// "the desk program, which tests its whole input before any run"
 #[tactic(auto, using(crate::proofs::Whole::sizes))]
-fn run(input: &[u8], output: &mut [u8]) -> usize
-    requires whole { well_formed input.now ≡ true }
-    requires room { most_bytes ≤ length output.old }
-    ensures bytes { output.new ≡ over output.old 0 (answer_to (parsed input.now)) }
-    ensures count { result ≡ length (answer_to (parsed input.now)) }
+fn run(input: &[u8]) -> Result<Labelled, Failure>
+    ensures { lines_after result ≡ desk_of input.now }
 {
+    if !input::well_formed(input) {
+        return Err(Failure::Malformed);
+    }
     let d = input::channels(input);
     let frames = input::frame_count(input);
     let mut room = [0i16; MAX_POINTS];
     let points = &mut room[..frames * d];
+    input::read_points(input, d, points);
+    let p = input::settings(input);
     let mut labels = [0u16; MAX_FRAMES];
     let mut kinds = [0u8; MAX_FRAMES];
     let mut work = [0u16; MAX_WORDS];
-    input::read_points(input, d, points);
-    let p = input::settings(input);
-    let outcome = appx_dbscan::transform(points, p, &mut labels, &mut kinds, &mut work);
-    output::put_outcome(output, outcome, &kinds, &labels, frames)
+    let counts = appx_dbscan::transform(points, p, &mut labels, &mut kinds, &mut work)?;
+    Ok(Labelled {
+        frames,
+        counts,
+        labels,
+        kinds,
+    })
 }
 
-// "the desk program, which tests its whole input before any run"
+// Writes the lines of what comes of an input. Returns how many bytes they are.
 fn respond(input: &[u8], output: &mut [u8]) -> usize
     requires room { most_bytes ≤ length output.old }
     ensures bytes { output.new ≡ over output.old 0 (desk_of input.now) }
     ensures count { result ≡ length (desk_of input.now) }
 {
-    if !input::well_formed(input) {
-        output::put_refusal(output, 10);
-        return 5;
+    match run(input) {
+        Ok(labelled) => output::put_labelled(output, &labelled),
+        Err(failure) => output::put_failure(output, failure),
     }
-    run(input, output)
 }
 
 // The output of an input.

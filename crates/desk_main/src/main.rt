@@ -1,7 +1,7 @@
 // Reads standard input to its end, and writes the answer to it to standard output.
 #![tactic(auto)]
 
-ghost use Rattle.std.specs.Prelude.{◌≡◌, ◌<◌, ◌≤◌, length, take, IfSome};
+ghost use Rattle.std.specs.Prelude.{◌≡◌, ◌<◌, ◌≤◌, length, take, IfOk, IfSome};
 
 use std::io;
 use std::io::Read;
@@ -19,24 +19,22 @@ fn skip_all<R: Read>(input: &mut R) {
     }
 }
 
-// Reads the input to its end, and answers how many of its bytes stand in the buffer. Where a read fails the input is not known:
-// then all of the buffer is answered, which is longer than any well-formed input. Less than all of it is the whole input.
-fn read_all<R: Read>(input: &mut R, buffer: &mut [u8]) -> usize
-    ensures bound { result ≤ length buffer.new }
-    ensures count { result ≡ length (take result buffer.new) }
-    ensures whole { result < length buffer.new → IfSome (R.remaining input.old) (λ xs. take result buffer.new ≡ xs) }
+// Reads the input to its end, and answers how many of its bytes stand in the buffer. Less than all of the buffer is the whole input.
+fn read_all<R: Read>(input: &mut R, buffer: &mut [u8]) -> io::Result<usize>
+    ensures bound { IfOk result (λ n. n ≤ length buffer.new) }
+    ensures count { IfOk result (λ n. n ≡ length (take n buffer.new)) }
+    ensures whole { IfOk result (λ n. n < length buffer.new → IfSome (R.remaining input.old) (λ xs. take n buffer.new ≡ xs)) }
 {
-    let Ok(n) = streams::read_full(input, buffer) else {
-        return buffer.len();
-    };
+    let n = streams::read_full(input, buffer)?;
     if n == buffer.len() {
         skip_all(input);
     }
-    n
+    Ok(n)
 }
 
+// An input that cannot be read is not known, and answered as an empty one: as malformed.
 fn main(rt: HostRuntime) -> io::Result<()> {
     let mut buffer = [0u8; ROOM];
-    let n = read_all(&mut rt.stdin(), &mut buffer);
+    let n = read_all(&mut rt.stdin(), &mut buffer).unwrap_or(0);
     rt.write_all(desk::answer(&buffer[..n]).as_bytes())
 }

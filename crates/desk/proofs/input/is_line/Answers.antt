@@ -1,45 +1,13 @@
-use mathlib.Core.Path.{◌≡◌, sym, ap, ◌∙◌}
-use Prim.Native.Nat.{ℕ, ◌+◌, ◌-◌}
-use native.Mathlib.Omega.{arith}
-use borrow.Author.Tests.{not-true, not-false}
-use lib.Dec.{eqb}
-use lib.ListN.{get_or}
-use Rattle.desk.specs.Desk.{is_line}
-use Rattle.desk.proofs.Lines.{line_stops, line_goes_on}
-use mathlib.Core.Bool.{not}
+-- All but the last byte are digits, and the last is a line feed.
+use Rattle.std.proofs.Common.{rules, refl, ◌∙◌}
+use Rattle.std.proofs.lemmas.Iterator.{YieldsList-from_slice}
+use Rattle.std.proofs.lemmas.Iterator.Search.{all_from_yields_List}
+use Rattle.hexadecimal.specs.Hexadecimal.{is_digit}
+use Rattle.desk.proofs.Lines.{line_by, both, neither}
 use Rattle.desk.proofs.input.is_line.Goals as goal
 
-pub loop-i-init : goal.loop-i-init
-loop-i-init c =
-    let e : c.args.at + c.args.k - c.args.at ≡ c.args.k = omega arith in
-    (omega arith, (omega arith, ap (is_line c.args.input.now c.args.at) e))
+pub returns-then-all : goal.returns-then-all
+returns-then-all c = both c.if-all.true refl ∙ line_by _ _ _ c.in-Some.ensures.cases (all_from_yields_List is_digit _ _ _ c.all.ensures.ran (YieldsList-from_slice c.in-Some.digits.now cc) (λ x b q k. search rules))
 
-pub byte-requires : goal.byte-requires
-byte-requires c = tt
-
-pub is_digit-requires : goal.is_digit-requires
-is_digit-requires c = tt
-
-pub returns-then-not-is_digit : goal.returns-then-not-is_digit
-returns-then-not-is_digit c = sym (line_stops _ _ _ c.loop-i-test.true c.byte.ensures c.is_digit.ensures (not-true _ (ap not c.if-not-is_digit.true))) ∙ c.loop-i.invariant.1.1
-
-pub loop-i-preserved : goal.loop-i-preserved
-loop-i-preserved c = (
-  omega arith,
-  (
-    omega arith,
-    sym (line_goes_on _ _ _ c.loop-i-test.true c.byte.ensures c.is_digit.ensures (not-false _ (ap not c.if-not-is_digit.false)))
-        ∙ c.loop-i.invariant.1.1,
-  ),
-)
-
-pub byte-requires-2 : goal.byte-requires-2
-byte-requires-2 c = tt
-
-pub returns : goal.returns
-returns c =
-    let e : c.loop-i.i ≡ c.args.at + c.args.k = omega arith in
-    let z : c.args.at + c.args.k - c.loop-i.i ≡ 0 = omega arith in
-    ap (λ (b : ℕ). eqb b 10) (c.byte-2.ensures ∙ ap (λ (j : ℕ). get_or c.args.input.now j 0) (sym e))
-    ∙ ap (is_line c.args.input.now c.loop-i.i) (sym z)
-    ∙ c.loop-i.invariant.1.1
+pub returns-else-all : goal.returns-else-all
+returns-else-all c = neither _ c.if-all.false refl ∙ line_by _ _ _ c.in-Some.ensures.cases (all_from_yields_List is_digit _ _ _ c.all.ensures.ran (YieldsList-from_slice c.in-Some.digits.now cc) (λ x b q k. search rules))

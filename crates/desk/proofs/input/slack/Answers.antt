@@ -1,21 +1,13 @@
-use mathlib.Core.Path.{◌≡◌, refl, ap, ◌∙◌}
-use Prim.Native.Nat.{ℕ, ◌^◌}
-use native.Mathlib.Omega.{arith}
-use lib.Ieee.{Float, binary64, mul, div, of_int, of_bits}
+use mathlib.Core.Path.{ap, ◌∙◌}
+use lib.Ieee.{Float, binary64, div, of_int, of_bits}
+use mir.Facts.{to_z-of_z}
+use mir.Syntax.{w32}
+use lib.IntN.{ℤ}
+use Rattle.std.specs.Float.{powi}
 use Rattle.hyperparams.specs.Params.{float, slack_at}
-use Rattle.desk.proofs.Lines.{double}
+use Rattle.desk.proofs.Lines.{power}
 use Rattle.desk.proofs.input.slack.Goals as goal
 
-pub loop-init : goal.loop-init
-unfolding of_bits of_int
-loop-init c = (omega arith, refl)
-
-pub loop-preserved : goal.loop-preserved
-unfolding of_bits of_int
-loop-preserved c = (omega arith, ap (λ (x : Float). mul binary64 x (float 2)) c.loop.invariant.1 ∙ double c.loop.counter (omega arith))
-
 pub returns : goal.returns
-unfolding slack_at of_bits
-returns c =
-    let e : c.loop.counter ≡ c.args.s = omega arith in
-    ap (λ (x : Float). div binary64 (float 1) x) (c.loop.invariant.1 ∙ ap (λ (k : ℕ). float (2 ^ k)) e)
+unfolding slack_at of_bits of_int
+returns c = ap (λ (x : Float). div binary64 (float 1) x) (c.powi.ensures ∙ ap (λ (z : ℤ). powi binary64 (float 2) z) (to_z-of_z {w = w32} (record { sfits = c.from.type_inv }) ∙ c.from.ensures) ∙ power c.args.s c.ranges.s.fits)

@@ -1,39 +1,25 @@
--- Each answer is the first test that fails.
-use mathlib.Core.Path.{◌≡◌, refl, sym, ap, ap₂, ◌∙◌}
-use mathlib.Core.Bool.{true, ◌&&◌}
-use mathlib.Core.Logic.{inl, inr}
-use Prim.Native.Nat.{ℕ, ◌*◌}
-use native.Mathlib.Omega.{arith}
-use borrow.Author.Tests.{not-true, not-false, le-leb, lt-leb}
+-- The four tests, one after the other.
+use Rattle.std.proofs.Common.{◌∙◌, sym, ap, refl, ℕ}
 use lib.Dec.{leb}
-use Rattle.desk.specs.Desk.{is_line, are_lines, channels_of}
-use Rattle.desk.proofs.Lines.{well_by, no_channels, some_channels}
-use mathlib.Core.Bool.{not}
+use Rattle.desk.proofs.Lines.{well_is, too_short, one_to_four, both, neither}
 use Rattle.desk.proofs.input.well_formed.Goals as goal
-use Rattle.desk.proofs.input.well_formed.Goals.{then-d-lt1-via-then-d-lt1, then-d-lt1-via-else-d-lt1+then-d-gt4}
+use Rattle.desk.proofs.input.well_formed.Goals.{then-is_line, else-is_line, then-contains, else-contains}
 
-pub returns-then-not-is_line : goal.returns-then-not-is_line
-returns-then-not-is_line c = sym (well_by c.args.input.now (sym c.is_line.ensures ∙ not-true _ (ap not c.if-not-is_line.true)) refl refl)
+pub returns-in_default : goal.returns-in_default
+returns-in_default c = sym (too_short c.args.input.now c.in_default.ensures.cases)
 
-pub returns-then-d-lt1 : goal.returns-then-d-lt1
-returns-then-d-lt1 c =
-    let line_at : is_line c.args.input.now 0 12 ≡ true = sym c.is_line.ensures ∙ not-false _ (ap not c.if-not-is_line.false) in
-    sym (well_by _ line_at
-    (no_channels c.channels-d.result c.channels-d.ensures.value (elim c.then-d-lt1.branch [ then-d-lt1-via-then-d-lt1 w ↦ inl w.if-d-lt1.true | then-d-lt1-via-else-d-lt1+then-d-gt4 w ↦ inr w.if-d-gt4.true ])) refl)
-
-pub returns-then-n-gt-MAX_FRAMES : goal.returns-then-n-gt-MAX_FRAMES
-returns-then-n-gt-MAX_FRAMES c =
-    let line_at : is_line c.args.input.now 0 12 ≡ true = sym c.is_line.ensures ∙ not-false _ (ap not c.if-not-is_line.false) in
-    let channels_at : let d = channels_of c.args.input.now in leb 1 d && leb d 4 ≡ true = some_channels c.channels-d.result c.channels-d.ensures.value c.if-d-lt1.false c.if-d-gt4.false in
-    sym (well_by _ line_at channels_at (ap (λ (n : ℕ). leb n 256) (sym c.frame_count-n.ensures) ∙ lt-leb _ _ c.if-n-gt-MAX_FRAMES.true))
-
-pub are_lines-requires : goal.are_lines-requires
-are_lines-requires c = omega (arith, c.if-d-gt4.false)
-
-pub returns : goal.returns
-returns c =
-    let line_at : is_line c.args.input.now 0 12 ≡ true = sym c.is_line.ensures ∙ not-false _ (ap not c.if-not-is_line.false) in
-    let channels_at : let d = channels_of c.args.input.now in leb 1 d && leb d 4 ≡ true = some_channels c.channels-d.result c.channels-d.ensures.value c.if-d-lt1.false c.if-d-gt4.false in
+pub returns-then-frame_count-le-MAX_FRAMES : goal.returns-then-frame_count-le-MAX_FRAMES
+returns-then-frame_count-le-MAX_FRAMES c =
+    both c.if-frame_count-le-MAX_FRAMES.true refl
+    ∙ well_is c.args.input.now c.in-Some.ensures.cases c.channels-d.result c.channels-d.ensures.value c.is_line.ensures
+    (elim c.if-is_line.branch [ then-is_line w ↦ both w.if-is_line.true (w.value-is ∙ w.contains.ensures.value ∙ one_to_four _ w.new.ensures.start w.new.ensures.end w.new.ensures.exhausted) | else-is_line w ↦ neither _ w.if-is_line.false w.value-is ])
+    (elim c.if-contains.branch [ then-contains w ↦ both w.if-contains.true (w.value-is ∙ ap (λ (n : ℕ). leb n 256) w.frame_count.ensures) | else-contains w ↦ neither _ w.if-contains.false w.value-is ])
     c.are_lines.ensures
-    ∙ ap₂ (λ (d n : ℕ). are_lines c.args.input.now (4 * d) n 13) c.channels-d.ensures.value c.frame_count-n.ensures
-    ∙ sym (well_by c.args.input.now line_at channels_at (ap (λ (n : ℕ). leb n 256) (sym c.frame_count-n.ensures) ∙ le-leb _ _ c.if-n-gt-MAX_FRAMES.false))
+
+pub returns-else-frame_count-le-MAX_FRAMES : goal.returns-else-frame_count-le-MAX_FRAMES
+returns-else-frame_count-le-MAX_FRAMES c =
+    neither _ c.if-frame_count-le-MAX_FRAMES.false refl
+    ∙ well_is c.args.input.now c.in-Some.ensures.cases c.channels-d.result c.channels-d.ensures.value c.is_line.ensures
+    (elim c.if-is_line.branch [ then-is_line w ↦ both w.if-is_line.true (w.value-is ∙ w.contains.ensures.value ∙ one_to_four _ w.new.ensures.start w.new.ensures.end w.new.ensures.exhausted) | else-is_line w ↦ neither _ w.if-is_line.false w.value-is ])
+    (elim c.if-contains.branch [ then-contains w ↦ both w.if-contains.true (w.value-is ∙ ap (λ (n : ℕ). leb n 256) w.frame_count.ensures) | else-contains w ↦ neither _ w.if-contains.false w.value-is ])
+    refl
