@@ -1,6 +1,7 @@
 -- Laws of numbers sorted by the blocks of their frames, in words: what sorting leaves, where the numbers of two buckets stand, and what writing and clearing other words does.
 use Rattle.std.specs.Prelude.{◌≡◌, ℕ, suc, ◌+◌, ◌-◌, ◌*◌, ◌%◌, ◌<◌, ◌≤◌, get_or, replicate}
 use Rattle.std.proofs.Math.Path.{sym, ap, ap₂}
+use Rattle.std.proofs.Props.{props}
 use Rattle.std.proofs.Common.{subst, ◌∙◌, inl, inr, mod-eq_of_lt, add-one, arith, lt-ltb, le-ltb}
 use mathlib.Core.List.{List, [], ◌++◌, map, append-nil}
 use Rattle.std.proofs.Math.Nat.{mod_self}
@@ -15,6 +16,9 @@ use Rattle.lists.specs.Sorting.{numbered, start_of, places_of, key_in, begin_in,
 use Rattle.lists.proofs.SortLaws.{start_of_none, start_of_all, start_le, start_mono, places_of_length, places_of_same, ends_same, begin_at, between}
 use Rattle.blocks.specs.declared.Stretch.{Stretch}
 use Rattle.blocks.specs.Blocks.{stretch_in, sorted_by}
+
+pub Sorted_prop : (key : ℕ → ℕ) (m size at places : ℕ) (w : List ℕ) → IsProp (Sorted key m size at places w)
+Sorted_prop key m size at places w = Prim.hlevel props
 
 -- ---- the numbers of a bucket and of the next one
 -- what a stretch is, by where the next bucket stands

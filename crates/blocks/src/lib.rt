@@ -27,6 +27,14 @@ pub struct Stretch {
     pub rest: usize,
 }
 
+// How wide the blocks are for a reach.
+pub fn width(reach: u64) -> u64
+    requires { reach ≤ 131070 }
+    ensures { result ≡ Definitions.width reach }
+{
+    2 * reach + 1
+}
+
 // Where the block begins that holds a raised count less `down`.
 fn edge(c: i16, width: u64, down: u64) -> u64
     requires { 0 < width }

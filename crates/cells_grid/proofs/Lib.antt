@@ -3,12 +3,8 @@ pub mod Grow
 pub mod IndexWords
 pub mod Arrange
 pub mod Hash
-pub mod Listed
-pub mod InRange
 pub mod Core
-pub mod Searching
 pub mod Sorting
-pub mod Gathering
 pub mod Neighbours
 pub mod PairLoops
 pub mod SharedBuckets
@@ -19,4 +15,12 @@ pub mod PairLaws
 pub mod RaisedLaws
 pub mod RowsAround
 pub mod NeighbourSearch
+pub mod Held
+pub mod SortedLaws
+pub mod PassingLaws
+pub mod Searching
+pub mod SortedStretch
+pub mod Gathering
 pub mod CellSearch
+pub mod SortedHeld
+pub mod Cut

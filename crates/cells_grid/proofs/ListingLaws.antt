@@ -1,25 +1,19 @@
--- Laws of the list of a cell: it has the core cells that the cell lists, each once, in some order; of those on it that are not marked; and what writing words does to the sorted cells.
-use Rattle.std.specs.Prelude.{◌≡◌, refl, ◌⊎◌, Bool, ◌&&◌, ℤ, leb, get_or, drop, replicate}
+-- Laws of the list of a cell: it has the core cells that the cell lists, each once, in some order; and of those on it that do not have a mark.
+use Rattle.std.specs.Prelude.{◌≡◌, refl, ◌⊎◌, Bool, ◌&&◌, ℤ, leb, get_or, drop}
 use Rattle.std.proofs.Math.Path.{sym, ap, subst}
-use Rattle.std.proofs.Common.{ap₂, ◌∙◌, le_trans, add-mul, mul-add, arith, leb→le, le→leb, length-append, eq-eqb, ne_eqb}
+use Rattle.std.proofs.Common.{ap₂, le_trans, add-mul, mul-add, arith, leb→le, le→leb, length-append, eq-eqb, ne_eqb}
 use Rattle.std.proofs.Math.Logic.{inl, inr}
 use Rattle.std.proofs.Math.Bool.{true, false, not, cond, and-true, and-false}
 use mathlib.Core.List.{List, ◌∷◌, ◌++◌, map, Permᴰ}
-use Prim.Native.Nat.{ℕ, zero, suc, ◌+◌, ◌-◌, ◌*◌, ◌%◌, ◌^◌, ◌<◌, ◌≤◌}
+use Prim.Native.Nat.{ℕ, zero, suc, ◌+◌, ◌-◌, ◌*◌, ◌^◌, ◌<◌, ◌≤◌}
 use Rattle.std.proofs.Math.Decide.{dec_lt}
 use Rattle.std.proofs.Math.Dec.{T, eqb, leb-zero}
 use Rattle.std.proofs.Math.ListN.{length}
-use Rattle.std.proofs.lemmas.List.{length-replicate}
-use Rattle.lists.specs.Lists.{from, numbers, keep, concat, In, Below}
-use Rattle.lists.specs.Words.{over, Clear}
-use Rattle.lists.specs.Sorting.{numbered, places_of}
-use Rattle.lists.specs.ListLaws.{true_T, and_left, and_right, and_both, in_keep, keep_in, keep_same, keep_more, in_append, append_one, append_two, at_in, in_numbers, numbers_in}
+use Rattle.lists.specs.Lists.{from, numbers, keep, concat, In}
+use Rattle.lists.specs.ListLaws.{true_T, and_left, and_right, and_both, in_keep, keep_in, keep_same, keep_more, in_append, append_one, append_two, in_numbers, numbers_in}
 use Rattle.lists.specs.CountLaws.{keep_append, keep_le, keep_all}
 use Rattle.lists.specs.OrderLaws.{kept_le}
 use Rattle.lists.specs.PermLaws.{perm_same, perm_length}
-use Rattle.lists.proofs.WordLaws.{over_again}
-use Rattle.lists.proofs.PartLaws.{get_under, part_at, clear_over, clear_within}
-use Rattle.lists.proofs.SortLaws.{sorted_over, start_le, start_of_all, places_of_length, places_of_below, begin_at}
 use Rattle.hyperparams.specs.declared.ValidParams.{ValidParams}
 use Rattle.counting_tree.specs.Frames.{squared}
 use Rattle.counting_tree.specs.Geometry.{Geometry, geometry_of, near}
@@ -32,48 +26,39 @@ use Rattle.cells_grid.specs.Cells.{cells, listed, core_cell}
 use Rattle.cells_grid.specs.Arrangement.{cell_at}
 use Rattle.cells_grid.specs.Ready.{ready_lawful}
 use Rattle.cells_grid.proofs.ArrangementLaws.{cells_le, cell_at_below, listed_at}
-use Rattle.cells_grid.specs.Listing.{reach_of, core_at, unmarked, sorted_count, geo, cell_buckets, cell_key, near_at, near_from, near_in, list_in, list_from, list_of, later_of, CellsSorted, MarkedRuns}
+use Rattle.cells_grid.specs.Listing.{reach_of, core_at, unmarked, geo, cell_buckets, cell_key, near_at, near_from, near_in, list_in, list_from, list_of, later_of}
 
--- words laid over words that are 0, and made 0 again
-laid_cleared : (w : List ℕ) (a : ℕ) (ws : List ℕ) (m : ℕ) → m ≡ length ws → a + m ≤ length w → Clear w a m → over (over w a ws) a (replicate m 0) ≡ w
-laid_cleared w a ws m e h z = over_again w a ws (replicate m 0) (omega arith) (length-replicate m 0 ∙ e) ∙ clear_over w a m h z
-
--- ---- the unmarked ones of some cells
-module _ (w : List ℕ) (a m : ℕ) where
+-- ---- the cells of some that do not have a mark
+module _ (ms : List ℕ) (mark : ℕ) where
   abbrev free : ℕ → Bool
-  free d = not (eqb (get_or w (a + d) 0) m)
+  free d = not (eqb (get_or ms d 0) mark)
 
-  free_of : (d : ℕ) → (get_or w (a + d) 0 ≡ m → ⊥) → T (free d)
-  free_of d h = true_T (ap not (ne_eqb (get_or w (a + d) 0) m h))
+  free_of : (d : ℕ) → (get_or ms d 0 ≡ mark → ⊥) → T (free d)
+  free_of d h = true_T (ap not (ne_eqb (get_or ms d 0) mark h))
 
-  pub in_unmarked : (d : ℕ) (ds : List ℕ) → In d (unmarked w a m ds) → In d ds × (get_or w (a + d) 0 ≡ m → ⊥)
+  pub in_unmarked : (d : ℕ) (ds : List ℕ) → In d (unmarked ms mark ds) → In d ds × (get_or ms d 0 ≡ mark → ⊥)
   unfolding unmarked
   in_unmarked d ds i =
       let z = in_keep free d ds i in
-      (z.0, λ e. subst T (ap not (eq-eqb (get_or w (a + d) 0) m e)) z.1)
+      (z.0, λ e. subst T (ap not (eq-eqb (get_or ms d 0) mark e)) z.1)
 
-  pub unmarked_all : (ds : List ℕ) → ((d : ℕ) → In d ds → get_or w (a + d) 0 ≡ m → ⊥) → unmarked w a m ds ≡ ds
+  pub unmarked_all : (ds : List ℕ) → ((d : ℕ) → In d ds → get_or ms d 0 ≡ mark → ⊥) → unmarked ms mark ds ≡ ds
   unfolding unmarked
   unmarked_all ds h = keep_all free ds (λ d i. free_of d (h d i))
 
-  pub unmarked_le : (ds : List ℕ) → length (unmarked w a m ds) ≤ length ds
+  pub unmarked_le : (ds : List ℕ) → length (unmarked ms mark ds) ≤ length ds
   unfolding unmarked
   unmarked_le ds = keep_le free ds
 
-  pub unmarked_append : (xs ys : List ℕ) → unmarked w a m (xs ++ ys) ≡ unmarked w a m xs ++ unmarked w a m ys
+  pub unmarked_append : (xs ys : List ℕ) → unmarked ms mark (xs ++ ys) ≡ unmarked ms mark xs ++ unmarked ms mark ys
   unfolding unmarked
   unmarked_append xs ys = keep_append free xs ys
 
   -- one cell more, if it passes
-  pub unmarked_more : (b : Bool) (d : ℕ) (ds : List ℕ) → unmarked w a m (cond b (d ∷ ds) ds) ≡ cond (not (eqb (get_or w (a + d) 0) m) && b) (d ∷ unmarked w a m ds) (unmarked w a m ds)
+  pub unmarked_more : (b : Bool) (d : ℕ) (ds : List ℕ) → unmarked ms mark (cond b (d ∷ ds) ds) ≡ cond (not (eqb (get_or ms d 0) mark) && b) (d ∷ unmarked ms mark ds) (unmarked ms mark ds)
   unfolding unmarked
   unmarked_more true d ds = ap (λ (t : Bool). cond t (d ∷ keep free ds) (keep free ds)) (sym (and-true (free d)))
   unmarked_more false d ds = ap (λ (t : Bool). cond t (d ∷ keep free ds) (keep free ds)) (sym (and-false (free d)))
-
-  -- words laid after the marks change nothing
-  pub unmarked_over : (n b : ℕ) (ws ds : List ℕ) → Below n ds → a + n ≤ b → b ≤ length w → unmarked (over w b ws) a m ds ≡ unmarked w a m ds
-  unfolding unmarked
-  unmarked_over n b ws ds l h k = keep_same (λ d. not (eqb (get_or (over w b ws) (a + d) 0) m)) free ds (λ d i. ap (λ (x : ℕ). not (eqb x m)) (get_under w b (a + d) ws (omega (arith, l d i)) k))
 
 -- "at most 4 × t × t" is at most the reach squared
 near_reach : (v : ValidParams) (n : ℕ) (ps : List ℤ) (i j : ℕ) → T ((geometry_at v n ps).near i j) → squared (frame_at (reach_of v) v n ps i) (frame_at (reach_of v) v n ps j) ≤ reach_of v * reach_of v
@@ -142,12 +127,6 @@ module _ {ps : List ℤ} {v : ValidParams} {n : ℕ} (r : Ready ps v n) where
   pub few : length (cells (geometry_at v n ps)) ≤ n
   few = omega (arith, cells_le g, at_frames v n ps)
 
-  -- some cells, written over words that are 0, and cleared
-  few_cleared : (w ds : List ℕ) → length ds ≤ length (cells (geometry_at v n ps)) → 16 * n ≤ length w → Clear w (15 * n) n → over (over w (15 * n) ds) (15 * n) (replicate (length ds) 0) ≡ w
-  few_cleared w ds s l z =
-      let b : length ds ≤ n = omega (arith, few) in
-      laid_cleared w (15 * n) ds (length ds) refl (omega arith) (clear_within w (15 * n) n (15 * n) (length ds) z (omega arith) (omega arith))
-
   inside : (d : ℕ) → d < k → cell_at g d < n
   inside d h = omega (arith, cell_at_below g d h, at_frames v n ps)
 
@@ -158,17 +137,6 @@ module _ {ps : List ℤ} {v : ValidParams} {n : ℕ} (r : Ready ps v n) where
   -- a key is below 4 × k
   pub cell_key_below : (d : ℕ) → d < length (cells (geometry_at v n ps)) → cell_key v n ps d < 4 * length (cells (geometry_at v n ps))
   cell_key_below d h = omega (arith, key_below (reach_of v) v n ps (4 * k - 1) (omega arith) (cell_at g) (core_at g) d)
-
-  -- what is found in a row are cells
-  pub in_below : (i a q : ℕ) → Below (length (cells (geometry_at v n ps))) (list_in v n ps i a q)
-  unfolding list_in found_in pair_at numbered
-  in_below i a q d l =
-      let b = bucket_around (reach_of v) v n ps (4 * k - 1) i q in
-      let K = cell_key v n ps in
-      elim (in_append d (numbered K k b) (numbered K k ((b + 1) % (4 * k - 1))) (in_keep (near_in v n ps i a q) d (numbered K k b ++ numbered K k ((b + 1) % (4 * k - 1))) l).0) [
-        | inl x ↦ in_numbers k d (in_keep (λ e. eqb (K e) b) d (numbers k) x).0
-        | inr x ↦ in_numbers k d (in_keep (λ e. eqb (K e) ((b + 1) % (4 * k - 1))) d (numbers k) x).0
-      ]
 
   -- ---- the list of a cell
   module _ (c : ℕ) (h : c < length (cells (geometry_at v n ps))) where
@@ -198,10 +166,6 @@ module _ {ps : List ℤ} {v : ValidParams} {n : ℕ} (r : Ready ps v n) where
     pub list_complete : (d : ℕ) → d < length (cells (geometry_at v n ps)) → T (core_cell (geometry_at v n ps) (cell_at (geometry_at v n ps) d))
         → T (listed (geometry_at v n ps) (cell_at (geometry_at v n ps) c) (cell_at (geometry_at v n ps) d)) → In d (list_of v n ps c)
     list_complete d l a b = (perm_same list_order d).1 (keep_in (λ d. core_cell g (cell_at g d) && listed g i (cell_at g d)) d (numbers k) (numbers_in k d l) (and_both (core_cell g (cell_at g d)) (listed g i (cell_at g d)) a b))
-
-    -- a list that was written over words that are 0, and cleared
-    pub list_cleared : (w : List ℕ) → 16 * n ≤ length w → Clear w (15 * n) n → over (over w (15 * n) (list_of v n ps c)) (15 * n) (replicate (length (list_of v n ps c)) 0) ≡ w
-    list_cleared w l z = few_cleared w (list_of v n ps c) list_length l z
 
     -- ---- those in the rows from its own on
     -- row by row, all that it lists
@@ -257,14 +221,9 @@ module _ {ps : List ℤ} {v : ValidParams} {n : ℕ} (r : Ready ps v n) where
         there : (a : ℕ) → a ≤ d → In d (list_in v n ps i a (row_for c d))
         there a e = found_in_lem (reach_of v) v n ps r.room r.settings.scale.some (4 * k - 1) (cell_at g) (core_at g) k (omega arith) inside i (inside c h) (near_from v n ps i a) (near_by_lem a) d l t (and_both (leb a d) (near_at v n ps i d) (le→leb a d e) u)
 
-    -- ---- those of them that are not marked in the words u
-    module _ (u : List ℕ) (a m : ℕ) where
-      pub unmarked_later_length : length (unmarked u a m (later_of v n ps c)) ≤ length (cells (geometry_at v n ps))
-      unmarked_later_length = le_trans (unmarked_le u a m (later_of v n ps c)) later_length
-
-      pub unmarked_later_cleared : (w : List ℕ) → 16 * n ≤ length w → Clear w (15 * n) n
-          → over (over w (15 * n) (unmarked u a m (later_of v n ps c))) (15 * n) (replicate (length (unmarked u a m (later_of v n ps c))) 0) ≡ w
-      unmarked_later_cleared w l z = few_cleared w (unmarked u a m (later_of v n ps c)) unmarked_later_length l z
+    -- those of them that do not have a mark
+    pub unmarked_later_length : (ms : List ℕ) (mark : ℕ) → length (unmarked ms mark (later_of v n ps c)) ≤ length (cells (geometry_at v n ps))
+    unmarked_later_length ms mark = le_trans (unmarked_le ms mark (later_of v n ps c)) later_length
 
   -- of two core cells that list each other, one finds the other
   pub later_complete : (c d : ℕ) → c < length (cells (geometry_at v n ps)) → d < length (cells (geometry_at v n ps)) → (c ≡ d → ⊥)
@@ -298,30 +257,3 @@ module _ {ps : List ℤ} {v : ValidParams} {n : ℕ} (r : Ready ps v n) where
 
       back : (own_row (reach_of v) v n ps (cell_at g d) < row_for d c) ⊎ ((own_row (reach_of v) v n ps (cell_at g d) ≡ row_for d c) × (d < c)) → In c (later_of v n ps d)
       back x = later_in_lem d l c h s ((ready_lawful r).near_turn (cell_at g c) (cell_at g d) near) x
-
-  -- words laid below or above the sorted cells keep them
-  pub cells_sorted_over : {w : List ℕ} (b : ℕ) (ws : List ℕ) → b ≤ length w → (b + length ws ≤ 10 * n) ⊎ (15 * n ≤ b) → CellsSorted v n ps w → CellsSorted v n ps (over w b ws)
-  cells_sorted_over b ws h (inl l) H = sorted_over H b ws (inr l) (inr (omega arith)) h
-  cells_sorted_over b ws h (inr l) H = sorted_over H b ws (inl (omega (arith, few))) (inl (omega (arith, few))) h
-
-  -- ---- the cells as they stand sorted
-  module _ {w : List ℕ} (H : CellsSorted v n ps w) where
-    pub sorted_few : sorted_count w n (length (cells (geometry_at v n ps))) ≤ length (cells (geometry_at v n ps))
-    sorted_few = omega (arith, begin_at H (4 * k - 1) (omega arith), start_le (cell_key v n ps) k (4 * k - 1))
-
-    pub sorted_cell : (p : ℕ) → p < length (cells (geometry_at v n ps)) → get_or w (14 * n + p) 0 < length (cells (geometry_at v n ps))
-    sorted_cell p h =
-        let P = places_of (cell_key v n ps) k (4 * k) in
-        let l : length P ≡ k = places_of_length (cell_key v n ps) k (4 * k) ∙ start_of_all (cell_key v n ps) k (4 * k) cell_key_below in
-        let e : get_or w (14 * n + p) 0 ≡ get_or P p 0 = sym (part_at w (14 * n) k p h) ∙ ap (λ (z : List ℕ). get_or z p 0) H.numbers in
-        omega (arith, places_of_below (cell_key v n ps) k (4 * k) (get_or P p 0) (at_in 0 P p (omega arith)))
-
-    -- words laid above the sorted cells keep the runs
-    pub marked_runs_over : {k mark : ℕ} (marks : ℕ) → k ≤ length (cells (geometry_at v n ps)) → marks + n ≤ 10 * n → MarkedRuns w n k marks mark
-        → (b : ℕ) (ws : List ℕ) → 15 * n ≤ b → b ≤ length w → MarkedRuns (over w b ws) n k marks mark
-    marked_runs_over {k} {mark} marks s a M b ws l h p j e m t =
-        mark_kept (p + j) e ∙ M p j e (sym (mark_kept p (omega arith)) ∙ m) (omega (arith, t, get_under w b (8 * n + p) ws (omega (arith, few)) h))
-      where
-        mark_kept : (q : ℕ) → q < k → get_or (over w b ws) (marks + get_or (over w b ws) (14 * n + q) 0) 0 ≡ get_or w (marks + get_or w (14 * n + q) 0) 0
-        mark_kept q z = ap (λ (x : ℕ). get_or (over w b ws) (marks + x) 0) (get_under w b (14 * n + q) ws (omega (arith, few)) h)
-            ∙ get_under w b (marks + get_or w (14 * n + q) 0) ws (omega (arith, few, sorted_cell q (omega arith))) h

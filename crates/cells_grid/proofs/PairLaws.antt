@@ -9,10 +9,11 @@ use Prim.Native.Nat.{ℕ, zero, suc, ◌+◌, ◌-◌, ◌*◌, ◌^◌, ◌<◌
 use Rattle.std.proofs.Math.Nat.{one-mul}
 use Rattle.std.proofs.Math.Decide.{dec_lt}
 use Rattle.std.proofs.Math.Dec.{T, leb, eqb, leb→le}
-use Rattle.std.proofs.Math.ListN.{get_or}
+use Rattle.std.proofs.Math.ListN.{get_or, length-replicate}
+use Rattle.std.proofs.lemmas.List.{get_or-replicate}
 use Rattle.std.proofs.lemmas.Bool.{lt-leb}
 use Rattle.lists.specs.Lists.{numbers, keep, how_many, total, concat, In}
-use Rattle.lists.specs.Words.{over, column, rest, Clear}
+use Rattle.lists.specs.Words.{column, rest}
 use Rattle.lists.specs.ListLaws.{true_T, T_true, T_false, T_or_not, not_turn, and_left, and_right, and_both, both_ways, keep_same, in_keep, in_from, from_in, in_numbers, numbers_in, map_same, in_append, in_concat, in_map}
 use Rattle.lists.specs.CountLaws.{keep_keep, keep_all, total_same, total_plus, total_bool}
 use Rattle.lists.specs.OrderLaws.{kept_le, from_ascending, numbers_ascending, once}
@@ -248,20 +249,24 @@ module _ {ps : List ℤ} {v : ValidParams} {n : ℕ} (r : Ready ps v n) (c : Cou
       ∙ total_same (λ y. A y + D y) (λ y. cond (neighbour g x y && not (eqb x y)) 1 0) ns (λ y q. bits x y h (in_numbers n y q))
       ∙ total_bool (λ y. neighbour g x y && not (eqb x y)) ns
 
-  module _ (w : List ℕ) (fit : 11 * n ≤ length w) (z : Clear w (10 * n) n) where
-    pub all_room : Room w (10 * n) n (concat (column (risen v n ps) n))
+  -- from 0 on
+  module _ {w : List ℕ} (z : w ≡ replicate n 0) where
+    zero_at : (x : ℕ) → x < n → get_or w x 0 ≡ 0
+    zero_at x h = ap (λ (u : List ℕ). get_or u x 0) z ∙ get_or-replicate n x 0 0 h
+
+    pub all_room : Room n w (concat (column (risen v n ps) n))
     all_room = record {
-      fit = omega arith;
+      many = ap length z ∙ length-replicate n 0;
       below = λ x q.
           let s = in_concat x (column (risen v n ps) n) q in
           let t = in_map (risen v n ps) s.0 (numbers n) s.1 in
           risen_low t.0 (in_numbers n t.0 t.1) x (subst (In x) t.2 s.2);
-      small = λ x h. omega (arith, z x h, counts_are x h, others_few v n ps x, r.few);
+      small = λ x h. omega (arith, zero_at x h, counts_are x h, others_few v n ps x, r.few);
     }
 
-    pub all_counted : raised w (10 * n) n (concat (column (risen v n ps) n)) ≡ over w (10 * n) (column (others v n ps) n)
+    pub all_counted : raised n w (concat (column (risen v n ps) n)) ≡ column (others v n ps) n
     unfolding raised
-    all_counted = ap (over w (10 * n)) (map_same (λ x. get_or w (10 * n + x) 0 + how_many (λ j. eqb x j) all) (others v n ps) (numbers n) (λ x q. let h = in_numbers n x q in omega (arith, z x h, counts_are x h)))
+    all_counted = map_same (λ x. get_or w x 0 + how_many (λ j. eqb x j) all) (others v n ps) (numbers n) (λ x q. let h = in_numbers n x q in omega (arith, zero_at x h, counts_are x h))
 
   -- with the frame itself
   pub others_more : (i : ℕ) → i < n → how_many (neighbour (geometry_at v n ps) i) (numbers n) ≡ 1 + others v n ps i

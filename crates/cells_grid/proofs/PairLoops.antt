@@ -1,29 +1,28 @@
 -- Pairs are counted stretch by stretch, row by row, frame by frame: what has risen so far, and what is still to be found.
-use mathlib.Core.Path.{◌≡◌, refl, sym, ap, ap₂, subst, ◌∙◌}
+use mathlib.Core.Path.{◌≡◌, refl, sym, ap, subst, ◌∙◌}
 use mathlib.Core.Bool.{Bool, true, false, cond, ◌&&◌, and-false}
 use mathlib.Core.List.{List, [], ◌∷◌, ◌++◌, map, append_assoc, append-nil}
 use Prim.Native.Nat.{ℕ, ◌+◌, ◌-◌, ◌*◌, ◌^◌, ◌<◌, ◌≤◌}
 use native.Mathlib.Omega.{arith}
 use lib.IntN.{ℤ}
 use lib.Dec.{leb}
-use lib.ListN.{length, get_or, set, replicate, length-append}
+use lib.ListN.{length, get_or, drop, set, replicate, length-append}
+use Rattle.std.proofs.Math.ListN.{drop_of_length-le}
 use borrow.Author.Tests.{eq-eqb, ne_eqb, le-leb, lt-leb}
-use Rattle.lists.specs.Lists.{keep, concat, Below}
-use Rattle.lists.specs.Words.{over, part, column, rest, Clear}
+use Rattle.lists.specs.Lists.{keep, how_many, concat}
+use Rattle.lists.specs.Words.{column, rest}
 use Rattle.lists.specs.CountLaws.{keep_le}
 use Rattle.lists.proofs.LoopLaws.{rest_start, rest_step, rest_end}
-use Rattle.lists.proofs.PartLaws.{part_length, part_step, part_below}
 use Rattle.hyperparams.specs.declared.ValidParams.{ValidParams}
 use Rattle.counting_tree.specs.Domain.{Counts}
-use Rattle.counting_tree.specs.Ready.{geometry_at}
-use Rattle.blocks.specs.declared.Stretch.{Stretch}
-use Rattle.blocks.specs.Blocks.{same_nats, row_of, row_around, bucket_around, stretch_in}
+use Rattle.counting_tree.specs.Ready.{geometry_at, Ready}
+use Rattle.blocks.specs.Blocks.{same_nats, row_of, row_around}
 use Rattle.cells_grid.specs.Cells.{neighbour}
-use Rattle.cells_grid.specs.Crowding.{neighbour_in}
-use Rattle.cells_grid.specs.Pairs.{raised, Room, Countable, later_by, Laid, row_for, low_in, later_in, later_row, later_of, risen, others}
-use Rattle.cells_grid.proofs.RaisedLaws.{raised_part, raised_above, raised_set, many_fits, Raising, raising_start, raising_length, raising_room, raising_more, raising_end, raising_left, laid_raised}
+use Rattle.cells_grid.specs.Crowding.{frames_near, neighbour_in}
+use Rattle.cells_grid.specs.Pairs.{raised, Room, row_for, low_in, later_in, later_row, later_of, risen, others}
+use Rattle.cells_grid.proofs.RaisedLaws.{raised_set, many_fits, Raising, raising_start, raising_length, raising_room, raising_more, raising_end, raising_left}
 use Rattle.cells_grid.proofs.PairLaws.{later_few, all_room, all_counted}
-use Rattle.cells_grid.proofs.Neighbours.{stretch_fits, rest_fits, rest_short, row_parts}
+use Rattle.cells_grid.proofs.Neighbours.{drop_next, row_parts, near_few}
 
 -- ---- one frame
 module _ (v : ValidParams) (n : ℕ) (ps : List ℤ) (i low m j : ℕ) where
@@ -37,182 +36,78 @@ module _ (v : ValidParams) (n : ℕ) (ps : List ℤ) (i low m j : ℕ) where
   later_is h e = e ∙ sym (ap (λ (b : Bool). here && (b && neighbour (geometry_at v n ps) i j)) (le-leb low j h))
 
 -- ---- a stretch
-module _ (v : ValidParams) (n : ℕ) (ps : List ℤ) (i low m : ℕ) where
-  -- the walk stands before place p
-  pub record Walking (a b : ℕ) (w₀ w : List ℕ) (sum p : ℕ) : Type 0 where
-    pub from_low : a ≤ p
-    pub high : p ≤ b
-    pub raising : Raising w₀ (10 * n) n (later_by v n ps i low m w₀ a b) (later_by v n ps i low m w₀ p b) w
-    pub count : sum + length (later_by v n ps i low m w₀ p b) ≡ length (later_by v n ps i low m w₀ a b)
+-- of the frames xs the first p are walked: those of them that pass f have risen, and `sum` is how many they are
+pub record Walking (f : ℕ → Bool) (n : ℕ) (w₀ w xs : List ℕ) (sum p : ℕ) : Type 0 where
+  pub raising : Raising n w₀ (keep f xs) (keep f (drop p xs)) w
+  pub count : sum + how_many f (drop p xs) ≡ how_many f xs
+  pub few : sum ≤ p
 
-  -- what the row asks: its bucket and the next one, which the stretch s gives
-  pub record Row (s : Stretch) (w₀ : List ℕ) : Type 0 where
-    pub laid : Laid v n ps w₀
-    pub inside : i < n
-    pub stretch : s ≡ stretch_in w₀ (16 * n) (bucket_around v.t v n ps (8 * n - 1) i m) (8 * n - 1)
-    pub room : Room w₀ (10 * n) n (later_row v n ps i low m)
+pub walking_start : {f : ℕ → Bool} {n : ℕ} {w₀ xs : List ℕ} → Room n w₀ (keep f xs) → Walking f n w₀ w₀ xs 0 0
+walking_start r = record { raising = raising_start r; count = omega arith; few = omega arith }
 
-  -- of a row what comes from a up to b, and after it up to `rest`, is still to be walked
-  pub record InRow (w₀ w : List ℕ) (a b rest sum : ℕ) : Type 0 where
-    pub from_low : a ≤ b
-    pub high : b ≤ n
-    pub rest_low : rest ≤ b
-    pub below : Below n (part w₀ (14 * n + a) (b - a))
-    pub rest_below : Below n (part w₀ (14 * n + 0) (rest - 0))
-    pub raising : Raising w₀ (10 * n) n (later_row v n ps i low m) (later_by v n ps i low m w₀ a b ++ later_by v n ps i low m w₀ 0 rest) w
-    pub count : sum + length (later_by v n ps i low m w₀ a b ++ later_by v n ps i low m w₀ 0 rest) ≡ length (later_row v n ps i low m)
+module _ {f : ℕ → Bool} {n : ℕ} {w₀ w xs : List ℕ} {sum p : ℕ} (W : Walking f n w₀ w xs sum p) where
+  -- frame j is next
+  module _ (h : p < length xs) {j : ℕ} (e : j ≡ get_or xs p 0) where
+    now_left : {t : Bool} → t ≡ f j → keep f (drop p xs) ≡ cond t (j ∷ keep f (drop (p + 1) xs)) (keep f (drop (p + 1) xs))
+    now_left {t} q =
+        ap (keep f) (drop_next xs p h ∙ ap (λ (z : ℕ). z ∷ drop (p + 1) xs) (sym e))
+        ∙ ap (λ (s : Bool). cond s (j ∷ keep f (drop (p + 1) xs)) (keep f (drop (p + 1) xs))) (sym q)
 
-module _ {v : ValidParams} {n : ℕ} {ps : List ℤ} {i low m a b : ℕ} {w₀ : List ℕ} (S : Countable v n ps i low m a b w₀) where
-  abbrev left : ℕ → List ℕ
-  left p = later_by v n ps i low m w₀ p b
+    pub walking_miss : {t : Bool} → t ≡ f j → t ≡ false → Walking f n w₀ w xs sum (p + 1)
+    walking_miss q r =
+        let z = now_left (sym r ∙ q) in
+        record { raising = raising_left W.raising z; count = ap (λ (l : List ℕ). sum + length l) (sym z) ∙ W.count; few = omega (arith, W.few) }
 
-  pub walking_start : Walking v n ps i low m a b w₀ w₀ 0 a
-  walking_start = record { from_low = omega arith; high = S.fits.0; raising = raising_start S.room; count = omega arith }
+    module _ (low : j < n) {t : Bool} (q : t ≡ f j) (r : t ≡ true) where
+      found : keep f (drop p xs) ≡ replicate 1 j ++ keep f (drop (p + 1) xs)
+      found = now_left (sym r ∙ q)
 
-  module _ {w : List ℕ} {sum p : ℕ} (W : Walking v n ps i low m a b w₀ w sum p) where
-    pub walking_length : length w ≡ length w₀
-    walking_length = raising_length W.raising
+      pub walking_fits : (j < length w) × (get_or w j 0 + 1 ≤ 65535)
+      walking_fits = many_fits 1 j low (raising_room W.raising (replicate 1 j) (keep f (drop (p + 1) xs)) found)
 
-    pub walking_laid : Laid v n ps w
-    walking_laid = laid_raised S.laid W.raising.done W.raising.work
+      pub walking_hit : {u : List ℕ} → u ≡ set w j (get_or w j 0 + 1) → Walking f n w₀ u xs (sum + 1) (p + 1)
+      walking_hit d = record {
+        raising = raising_more W.raising (replicate 1 j) (keep f (drop (p + 1) xs)) found (d ∙ raised_set n w (raising_length W.raising) j 1 low);
+        count = omega (arith, W.count, ap length found);
+        few = omega (arith, W.few);
+      }
 
-    pub walking_few : sum ≤ n
-    walking_few = omega (arith, W.count, keep_le (later_in v n ps i low m) (part w₀ (14 * n + a) (b - a)), part_length w₀ (14 * n + a) (b - a) (omega (arith, S.fits.0, S.fits.1, S.laid.fit)), S.fits.1)
+  pub walking_end : length xs ≤ p → (sum ≡ how_many f xs) × (w ≡ raised n w₀ (keep f xs))
+  walking_end h =
+      let y : keep f (drop p xs) ≡ [] = ap (keep f) (drop_of_length-le xs h) in
+      (omega (arith, W.count, ap length y), raising_end W.raising y)
 
-    pub walking_place : p ≤ n
-    walking_place = omega (arith, W.high, S.fits.1)
+-- ---- a row, in two stretches
+module _ (v : ValidParams) (n : ℕ) (ps : List ℤ) (i low m : ℕ) (A B : List ℕ) (e : A ++ B ≡ frames_near v n ps i m) {w₀ : List ℕ} (r : Room n w₀ (later_row v n ps i low m)) where
+  abbrev of : List ℕ → List ℕ
+  of xs = keep (later_in v n ps i low m) xs
 
-    module _ (more : p < b) {j : ℕ} (e : j ≡ get_or w (14 * n + p) 0) where
-      was : j ≡ get_or w₀ (14 * n + p) 0
-      was = e ∙ ap (λ (z : List ℕ). get_or z (14 * n + p) 0) W.raising.work ∙ raised_above w₀ (10 * n) n S.room.fit W.raising.done (14 * n + p) (omega arith)
-
-      pub walking_low : j < n
-      walking_low =
-          let z : 14 * n + a + (p - a) ≡ 14 * n + p = omega (arith, W.from_low) in
-          omega (arith, was, ap (λ (x : ℕ). get_or w₀ x 0) z, part_below n w₀ (14 * n + a) (b - a) (p - a) S.fits.2 (omega (arith, S.fits.0, S.fits.1, S.laid.fit)) (omega (arith, W.from_low)))
-
-      now_left : {t : Bool} → t ≡ later_in v n ps i low m j → left p ≡ cond t (j ∷ left (p + 1)) (left (p + 1))
-      now_left {t} h =
-          ap (keep (later_in v n ps i low m)) (part_step w₀ (14 * n) b p (omega (arith, S.fits.1, S.laid.fit)) more ∙ ap (λ (z : ℕ). z ∷ part w₀ (14 * n + (p + 1)) (b - (p + 1))) (sym was))
-          ∙ ap (λ (s : Bool). cond s (j ∷ left (p + 1)) (left (p + 1))) (sym h)
-
-      pub walking_miss : {t : Bool} → t ≡ later_in v n ps i low m j → t ≡ false → Walking v n ps i low m a b w₀ w sum (p + 1)
-      walking_miss h f =
-          let z : left p ≡ left (p + 1) = now_left (sym f ∙ h) in
-          record { from_low = omega (arith, W.from_low); high = omega arith; raising = raising_left W.raising z; count = ap (λ (l : List ℕ). sum + length l) (sym z) ∙ W.count }
-
-      module _ {t : Bool} (h : t ≡ later_in v n ps i low m j) (f : t ≡ true) where
-        found : left p ≡ replicate 1 j ++ left (p + 1)
-        found = now_left (sym f ∙ h)
-
-        pub walking_fits : (10 * n + j < length w) × (get_or w (10 * n + j) 0 + 1 ≤ 65535)
-        walking_fits = many_fits 1 j walking_low (raising_room W.raising (replicate 1 j) (left (p + 1)) found)
-
-        pub walking_hit : {u : List ℕ} → u ≡ set w (10 * n + j) (get_or w (10 * n + j) 0 + 1) → Walking v n ps i low m a b w₀ u (sum + 1) (p + 1)
-        walking_hit d = record {
-          from_low = omega (arith, W.from_low);
-          high = omega arith;
-          raising = raising_more W.raising (replicate 1 j) (left (p + 1)) found (d ∙ raised_set w (10 * n) n (omega (arith, walking_length, S.room.fit)) j 1 walking_low);
-          count = omega (arith, W.count, ap length found);
-        }
-
-    pub walking_end : b ≤ p → (sum ≡ length (keep (later_in v n ps i low m) (part w₀ (14 * n + a) (b - a)))) × (w ≡ raised w₀ (10 * n) n (keep (later_in v n ps i low m) (part w₀ (14 * n + a) (b - a))))
-    walking_end h =
-        let z : b - p ≡ 0 = omega arith in
-        let y : left p ≡ [] = ap (λ (x : ℕ). keep (later_in v n ps i low m) (part w₀ (14 * n + p) x)) z in
-        (omega (arith, W.count, ap length y), raising_end W.raising y)
-
--- ---- a row
-module _ {v : ValidParams} {n : ℕ} {ps : List ℤ} {i low m : ℕ} {s : Stretch} {w₀ : List ℕ} (Q : Row v n ps i low m s w₀) where
-  abbrev by : ℕ → ℕ → List ℕ
-  by a b = later_by v n ps i low m w₀ a b
-
-  row_is : by s.«from» s.to ++ by 0 s.rest ≡ later_row v n ps i low m
+  row_is : later_row v n ps i low m ≡ of A ++ of B
   unfolding later_row
-  row_is = sym (row_parts m Q.laid.ready Q.inside Q.laid.sorted Q.stretch (λ j. leb low j && neighbour (geometry_at v n ps) i j))
+  row_is = row_parts v n ps i m A B e (λ j. leb low j && neighbour (geometry_at v n ps) i j)
 
-  row_small : length (later_row v n ps i low m) ≤ 2 * n
-  row_small =
-      let A = stretch_fits m Q.laid.ready Q.inside Q.laid.sorted Q.stretch in
-      let B = rest_fits m Q.laid.ready Q.inside Q.laid.sorted Q.stretch in
-      omega (
-        arith,
-        A.0,
-        A.1,
-        B.1,
-        Q.laid.fit,
-        ap length row_is,
-        length-append (by s.«from» s.to) (by 0 s.rest),
-        keep_le (later_in v n ps i low m) (part w₀ (14 * n + s.«from») (s.to - s.«from»)),
-        keep_le (later_in v n ps i low m) (part w₀ (14 * n + 0) (s.rest - 0)),
-        part_length w₀ (14 * n + s.«from») (s.to - s.«from») (omega (arith, A.0, A.1, Q.laid.fit)),
-        part_length w₀ (14 * n + 0) (s.rest - 0) (omega (arith, B.1, Q.laid.fit)),
-      )
+  pub row_room : Room n w₀ (keep (later_in v n ps i low m) A)
+  row_room = raising_room (raising_start r) (of A) (of B) row_is
 
-  pub row_start : InRow v n ps i low m w₀ w₀ s.«from» s.to s.rest 0
-  row_start =
-      let A = stretch_fits m Q.laid.ready Q.inside Q.laid.sorted Q.stretch in
-      let B = rest_fits m Q.laid.ready Q.inside Q.laid.sorted Q.stretch in
-      record {
-        from_low = A.0;
-        high = A.1;
-        rest_low = rest_short m Q.laid.ready Q.inside Q.laid.sorted Q.stretch;
-        below = A.2;
-        rest_below = B.2;
-        raising = raising_left (raising_start Q.room) (sym row_is);
-        count = omega (arith, ap length row_is);
-      }
+  module _ {x : ℕ} (d : x ≡ how_many (later_in v n ps i low m) A) {u : List ℕ} (g : u ≡ raised n w₀ (keep (later_in v n ps i low m) A)) where
+    row_next : Raising n w₀ (later_row v n ps i low m) (of B) u
+    row_next = raising_more (raising_start r) (of A) (of B) row_is g
 
-  module _ {u : List ℕ} {from to rest sum : ℕ} (I : InRow v n ps i low m w₀ u from to rest sum) where
-    abbrev X : List ℕ
-    X = by from to
+    rest_left : of B ≡ of B ++ []
+    rest_left = sym (append-nil (of B))
 
-    pub row_length : length u ≡ length w₀
-    row_length = raising_length I.raising
+    pub rest_room : Room n u (keep (later_in v n ps i low m) B)
+    rest_room = raising_room row_next (of B) [] rest_left
 
-    row_laid : Laid v n ps u
-    row_laid = laid_raised Q.laid I.raising.done I.raising.work
+    module _ {y : ℕ} (k : y ≡ how_many (later_in v n ps i low m) B) where
+      pub row_count : x + y ≡ length (later_row v n ps i low m)
+      row_count = omega (arith, d, k, ap length row_is, length-append (of A) (of B))
 
-    -- the sorted frames are as they were
-    part_same : part u (14 * n + from) (to - from) ≡ part w₀ (14 * n + from) (to - from)
-    part_same = ap (λ (z : List ℕ). part z (14 * n + from) (to - from)) I.raising.work ∙ raised_part w₀ (10 * n) n Q.room.fit I.raising.done (14 * n + from) (to - from) (omega arith)
+      pub row_few : x + y ≤ 2 * n
+      row_few = omega (arith, d, k, keep_le (later_in v n ps i low m) A, keep_le (later_in v n ps i low m) B, length-append A B, ap length e, near_few v n ps i m)
 
-    as_before : later_by v n ps i low m u from to ≡ X
-    as_before = ap (keep (later_in v n ps i low m)) part_same
-
-    row_fits : (from ≤ to) × (to ≤ n) × Below n (part u (14 * n + from) (to - from))
-    row_fits = (I.from_low, I.high, subst (Below n) (sym part_same) I.below)
-
-    row_room : Room u (10 * n) n (keep (later_in v n ps i low m) (part u (14 * n + from) (to - from)))
-    row_room = subst (Room u (10 * n) n) (sym as_before) (raising_room I.raising X (by 0 rest) refl)
-
-    pub row_countable : Countable v n ps i low m from to u
-    row_countable = record { laid = row_laid; fits = row_fits; room = row_room }
-
-    module _ {x : ℕ} (d : x ≡ length (keep (later_in v n ps i low m) (part u (14 * n + from) (to - from)))) where
-      sums : sum + x + length (by 0 rest) ≡ length (later_row v n ps i low m)
-      sums = omega (arith, d, ap length as_before, I.count, length-append X (by 0 rest))
-
-      pub row_next : {y : List ℕ} → y ≡ raised u (10 * n) n (keep (later_in v n ps i low m) (part u (14 * n + from) (to - from))) → InRow v n ps i low m w₀ y 0 rest 0 (sum + x)
-      row_next f = record {
-        from_low = omega arith;
-        high = omega (arith, I.rest_low, I.high);
-        rest_low = omega arith;
-        below = I.rest_below;
-        rest_below = λ x j. absurd j;
-        raising = raising_left (raising_more I.raising X (by 0 rest) refl (f ∙ ap (raised u (10 * n) n) as_before)) (sym (append-nil (by 0 rest)));
-        count = ap (λ (l : List ℕ). sum + x + length l) (append-nil (by 0 rest)) ∙ sums;
-      }
-
-      pub row_few : sum + x ≤ 2 * n
-      row_few = omega (arith, sums, row_small)
-
-    pub row_end : to ≤ 0 → (sum ≡ length (later_row v n ps i low m)) × (u ≡ raised w₀ (10 * n) n (later_row v n ps i low m))
-    row_end g =
-        let a : to - from ≡ 0 = omega arith in
-        let b : rest ≡ 0 = omega (arith, I.rest_low) in
-        let l : X ++ by 0 rest ≡ [] = ap₂ (λ (x y : ℕ). keep (later_in v n ps i low m) (part w₀ (14 * n + from) x) ++ keep (later_in v n ps i low m) (part w₀ (14 * n + 0) (y - 0))) a b in
-        (omega (arith, I.count, ap length l), raising_end I.raising l)
+      pub row_end : {t : List ℕ} → t ≡ raised n u (keep (later_in v n ps i low m) B) → t ≡ raised n w₀ (later_row v n ps i low m)
+      row_end q = raising_end (raising_more row_next (of B) [] rest_left q) refl
 
 -- ---- a frame
 module _ (v : ValidParams) (n : ℕ) (ps : List ℤ) (i : ℕ) where
@@ -228,10 +123,10 @@ module _ (v : ValidParams) (n : ℕ) (ps : List ℤ) (i : ℕ) where
   pub record InFrame (w₀ w : List ℕ) (m low sum : ℕ) : Type 0 where
     pub own : row_for v n ps i i ≤ m
     pub start : low ≡ low_in v n ps i m
-    pub raising : Raising w₀ (10 * n) n (risen v n ps i) (later_from m ++ replicate (length (later_of v n ps i)) i) w
+    pub raising : Raising n w₀ (risen v n ps i) (later_from m ++ replicate (length (later_of v n ps i)) i) w
     pub count : sum + length (later_from m) ≡ length (later_of v n ps i)
 
-module _ {v : ValidParams} {n : ℕ} {ps : List ℤ} {i : ℕ} {w₀ : List ℕ} (L : Laid v n ps w₀) (C : Counts ps) (h : i < n) (r : Room w₀ (10 * n) n (risen v n ps i)) where
+module _ {v : ValidParams} {n : ℕ} {ps : List ℤ} {i : ℕ} {w₀ : List ℕ} (L : Ready ps v n) (C : Counts ps) (h : i < n) (r : Room n w₀ (risen v n ps i)) where
   abbrev own : ℕ
   own = row_for v n ps i i
 
@@ -248,12 +143,6 @@ module _ {v : ValidParams} {n : ℕ} {ps : List ℤ} {i : ℕ} {w₀ : List ℕ}
   }
 
   module _ {w : List ℕ} {m low sum : ℕ} (I : InFrame v n ps i w₀ w m low sum) where
-    pub frame_length : length w ≡ length w₀
-    frame_length = raising_length I.raising
-
-    pub frame_laid : Laid v n ps w
-    frame_laid = laid_raised L I.raising.done I.raising.work
-
     module _ (l : m < 2 ^ (v.channels - 1)) where
       next_left : later_from v n ps i m ≡ later_row v n ps i low m ++ later_from v n ps i (m + 1)
       next_left =
@@ -263,7 +152,7 @@ module _ {v : ValidParams} {n : ℕ} {ps : List ℤ} {i : ℕ} {w₀ : List ℕ}
       all_left : later_from v n ps i m ++ back ≡ later_row v n ps i low m ++ (later_from v n ps i (m + 1) ++ back)
       all_left = ap (λ (z : List ℕ). z ++ back) next_left ∙ append_assoc (later_row v n ps i low m) (later_from v n ps i (m + 1)) back
 
-      pub frame_room : Room w (10 * n) n (later_row v n ps i low m)
+      pub frame_room : Room n w (later_row v n ps i low m)
       frame_room = raising_room I.raising (later_row v n ps i low m) (later_from v n ps i (m + 1) ++ back) all_left
 
       module _ {x : ℕ} (d : x ≡ length (later_row v n ps i low m)) where
@@ -271,9 +160,9 @@ module _ {v : ValidParams} {n : ℕ} {ps : List ℤ} {i : ℕ} {w₀ : List ℕ}
         frame_sums = omega (arith, d, I.count, ap length next_left, length-append (later_row v n ps i low m) (later_from v n ps i (m + 1)))
 
         pub frame_sum : sum + x ≤ n
-        frame_sum = omega (arith, frame_sums, later_few L.ready C i h)
+        frame_sum = omega (arith, frame_sums, later_few L C i h)
 
-        pub frame_next : {u : List ℕ} → u ≡ raised w (10 * n) n (later_row v n ps i low m) → InFrame v n ps i w₀ u (m + 1) 0 (sum + x)
+        pub frame_next : {u : List ℕ} → u ≡ raised n w (later_row v n ps i low m) → InFrame v n ps i w₀ u (m + 1) 0 (sum + x)
         frame_next f = record {
           own = omega (arith, I.own);
           start = ap (λ (b : Bool). cond b (i + 1) 0) (sym (ne_eqb (m + 1) own (λ z. omega (arith, I.own))));
@@ -291,41 +180,35 @@ module _ {v : ValidParams} {n : ℕ} {ps : List ℤ} {i : ℕ} {w₀ : List ℕ}
           let z : length (later_of v n ps i) ≡ sum = omega (arith, I.count, ap length none) in
           ap (λ (x : List ℕ). x ++ back) none ∙ ap (λ (x : ℕ). replicate x i) z ∙ sym (append-nil (replicate sum i))
 
-      pub frame_fits : (10 * n + i < length w) × (get_or w (10 * n + i) 0 + sum ≤ 65535)
+      pub frame_fits : (i < length w) × (get_or w i 0 + sum ≤ 65535)
       frame_fits = many_fits sum i h (raising_room I.raising (replicate sum i) [] own_left)
 
-      pub frame_end : {u : List ℕ} → u ≡ set w (10 * n + i) (get_or w (10 * n + i) 0 + sum) → u ≡ raised w₀ (10 * n) n (risen v n ps i)
-      frame_end d = raising_end (raising_more I.raising (replicate sum i) [] own_left (d ∙ raised_set w (10 * n) n (omega (arith, frame_length, r.fit)) i sum h)) refl
+      pub frame_end : {u : List ℕ} → u ≡ set w i (get_or w i 0 + sum) → u ≡ raised n w₀ (risen v n ps i)
+      frame_end d = raising_end (raising_more I.raising (replicate sum i) [] own_left (d ∙ raised_set n w (raising_length I.raising) i sum h)) refl
 
 -- ---- all frames
 -- what the frames from i on raise is left
 pub record InFrames (v : ValidParams) (n : ℕ) (ps : List ℤ) (w₀ w : List ℕ) (i : ℕ) : Type 0 where
   pub high : i ≤ n
-  pub raising : Raising w₀ (10 * n) n (concat (column (risen v n ps) n)) (concat (map (risen v n ps) (rest n i))) w
+  pub raising : Raising n w₀ (concat (column (risen v n ps) n)) (concat (map (risen v n ps) (rest n i))) w
 
-module _ {v : ValidParams} {n : ℕ} {ps : List ℤ} {w₀ : List ℕ} (L : Laid v n ps w₀) (C : Counts ps) (z : Clear w₀ (10 * n) n) where
+module _ {v : ValidParams} {n : ℕ} {ps : List ℤ} {w₀ : List ℕ} (L : Ready ps v n) (C : Counts ps) (z : w₀ ≡ replicate n 0) where
   pub frames_start : InFrames v n ps w₀ w₀ 0
   frames_start = record {
     high = omega arith;
-    raising = raising_left (raising_start (all_room L.ready C w₀ (omega (arith, L.fit)) z)) (ap (λ (rs : List ℕ). concat (map (risen v n ps) rs)) (sym (rest_start n)));
+    raising = raising_left (raising_start (all_room L C z)) (ap (λ (rs : List ℕ). concat (map (risen v n ps) rs)) (sym (rest_start n)));
   }
 
   module _ {w : List ℕ} {i : ℕ} (I : InFrames v n ps w₀ w i) where
-    pub frames_length : length w ≡ length w₀
-    frames_length = raising_length I.raising
-
-    pub frames_laid : Laid v n ps w
-    frames_laid = laid_raised L I.raising.done I.raising.work
-
     module _ (l : i < n) where
       next : concat (map (risen v n ps) (rest n i)) ≡ risen v n ps i ++ concat (map (risen v n ps) (rest n (i + 1)))
       next = ap (λ (rs : List ℕ). concat (map (risen v n ps) rs)) (rest_step n i l)
 
-      pub frames_room : Room w (10 * n) n (risen v n ps i)
+      pub frames_room : Room n w (risen v n ps i)
       frames_room = raising_room I.raising (risen v n ps i) (concat (map (risen v n ps) (rest n (i + 1)))) next
 
-      pub frames_next : {u : List ℕ} → u ≡ raised w (10 * n) n (risen v n ps i) → InFrames v n ps w₀ u (i + 1)
+      pub frames_next : {u : List ℕ} → u ≡ raised n w (risen v n ps i) → InFrames v n ps w₀ u (i + 1)
       frames_next d = record { high = omega arith; raising = raising_more I.raising (risen v n ps i) (concat (map (risen v n ps) (rest n (i + 1)))) next d }
 
-    pub frames_end : n ≤ i → w ≡ over w₀ (10 * n) (column (others v n ps) n)
-    frames_end l = raising_end I.raising (ap (λ (rs : List ℕ). concat (map (risen v n ps) rs)) (rest_end n i l)) ∙ all_counted L.ready C w₀ (omega (arith, L.fit)) z
+    pub frames_end : n ≤ i → w ≡ column (others v n ps) n
+    frames_end l = raising_end I.raising (ap (λ (rs : List ℕ). concat (map (risen v n ps) rs)) (rest_end n i l)) ∙ all_counted L C z

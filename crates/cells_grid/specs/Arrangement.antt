@@ -1,6 +1,7 @@
 -- What the run keeps of cells in the lent work words: regions of one word a frame, each a list that frames and settings determine. Definitions only.
 use Rattle.std.specs.Prelude.{◌≡◌, List, map, ℕ, ◌*◌, length, get_or, take}
 use Rattle.std.proofs.Math.Bool.{cond}
+use Rattle.std.proofs.Props.{props}
 use Rattle.lists.specs.Lists.{concat, total}
 use Rattle.lists.specs.Words.{part, column}
 use Rattle.counting_tree.specs.Geometry.{Geometry}
@@ -31,6 +32,9 @@ module _ (g : Geometry) where
     pub firsts : part w g.frames k ≡ cells g
     pub starts : part w (2 * g.frames) k ≡ column start_at k
     pub places : part w (3 * g.frames) g.frames ≡ arranged
+
+  pub Arranged_prop : (k : ℕ) (w : List ℕ) → IsProp (Arranged k w)
+  Arranged_prop k w = Prim.hlevel props
 
   -- and from 4n which frames are core
   pub record Cored (k : ℕ) (w : List ℕ) : Type 0 where

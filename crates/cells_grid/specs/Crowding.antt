@@ -3,7 +3,7 @@ use Rattle.std.specs.Prelude.{Bool, true, ◌&&◌, List, ℕ, ◌-◌, ◌*◌,
 use Rattle.std.proofs.Math.ListN.{length}
 use Rattle.hyperparams.specs.declared.ValidParams.{ValidParams}
 use Rattle.counting_tree.specs.Ready.{geometry_at}
-use Rattle.blocks.specs.Blocks.{same_nats, row_of, row_around, key_for, found_in}
+use Rattle.blocks.specs.Blocks.{same_nats, row_of, row_around, bucket_around, key_for, pair_at, found_in}
 use Rattle.cells_grid.specs.Cells.{neighbour}
 
 -- a frame stands for itself
@@ -22,6 +22,11 @@ module _ (v : ValidParams) (n : ℕ) (ps : List ℤ) where
   -- whether frame j is a neighbour of frame i in row r of those around it
   abbrev pub neighbour_in : ℕ → ℕ → ℕ → Bool
   neighbour_in i r j = same_nats (row_of v.t v n ps j) (row_around v.t v n ps i r) && neighbour (geometry_at v n ps) i j
+
+  -- the frames that are looked at for row r around frame i: those of two buckets
+  unfoldable pub frames_near : ℕ → ℕ → List ℕ
+  unfolding pair_at bucket_around
+  frames_near i r = pair_at v.t v n ps (8 * n - 1) itself every n (bucket_around v.t v n ps (8 * n - 1) i r)
 
   -- how many are found there
   unfoldable pub neighbours_in : ℕ → ℕ → ℕ

@@ -7,4 +7,5 @@ pub mod HashingLaws
 pub mod Ready
 pub mod Crowding
 pub mod Listing
+pub mod Passing
 pub mod Pairs

@@ -1,14 +1,14 @@
--- The core cells that a cell lists, in the order in which a search by blocks finds them, and what the words hold for that search. Definitions only.
-use Rattle.std.specs.Prelude.{◌≡◌, Bool, not, ◌&&◌, List, [], ◌++◌, ℕ, zero, suc, ◌+◌, ◌-◌, ◌*◌, ◌^◌, ◌<◌, ◌≤◌, ℤ, eqb, leb, length, get_or}
+-- The core cells that a cell lists, in the order in which a search by blocks finds them, and what is marked among them. Definitions only.
+use Rattle.std.specs.Prelude.{◌≡◌, Bool, not, ◌&&◌, List, [], ◌++◌, ℕ, zero, suc, ◌+◌, ◌-◌, ◌*◌, ◌^◌, ◌<◌, ◌≤◌, ℤ, eqb, leb, length, get_or, take}
 use Rattle.lists.specs.Lists.{keep}
-use Rattle.lists.specs.Words.{part}
-use Rattle.lists.specs.Sorting.{begin_in, Sorted}
+use Rattle.lists.specs.Words.{part, column}
+use Rattle.lists.specs.Sorting.{start_of, places_of}
 use Rattle.hyperparams.specs.declared.ValidParams.{ValidParams}
 use Rattle.counting_tree.specs.Geometry.{Geometry}
-use Rattle.counting_tree.specs.Ready.{geometry_at, Ready}
+use Rattle.counting_tree.specs.Ready.{geometry_at}
 use Rattle.blocks.specs.Blocks.{same_nats, row_of, row_around, own_row, key_for, found_in, found}
 use Rattle.cells_grid.specs.Cells.{cells, core_cell}
-use Rattle.cells_grid.specs.Arrangement.{cell_at, Arranged}
+use Rattle.cells_grid.specs.Arrangement.{cell_at}
 
 -- how far the counts of the first frames of cells that list each other can differ: "at most 4 × t × t"
 abbrev pub reach_of : ValidParams → ℕ
@@ -18,17 +18,23 @@ reach_of v = 2 * v.t
 abbrev pub core_at : Geometry → ℕ → Bool
 core_at g c = core_cell g (cell_at g c)
 
--- of the cells ds those whose word from `marks` on is not `mark`
-unfoldable pub unmarked : List ℕ → (marks mark : ℕ) → List ℕ → List ℕ
-unmarked w marks mark ds = keep (λ d. not (eqb (get_or w (marks + d) 0) mark)) ds
+-- of the cells ds those that do not have this mark
+unfoldable pub unmarked : List ℕ → (mark : ℕ) → List ℕ → List ℕ
+unmarked ms mark ds = keep (λ d. not (eqb (get_or ms d 0) mark)) ds
 
--- a marked one of the k sorted cells is followed by as many marked ones as its word from 8n on says
-abbrev pub MarkedRuns : List ℕ → (n k marks mark : ℕ) → Type 0
-MarkedRuns w n k marks mark = (p j : ℕ) → p + j < k → get_or w (marks + get_or w (14 * n + p) 0) 0 ≡ mark → j ≤ get_or w (8 * n + p) 0 → get_or w (marks + get_or w (14 * n + (p + j)) 0) 0 ≡ mark
+-- of a cell's list the cells that do not have its mark
+abbrev pub unlike : List ℕ → (lists : ℕ → List ℕ) → ℕ → List ℕ
+unlike ms lists c = unmarked ms (get_or ms c 0) (lists c)
 
--- how many core cells stand sorted: those before the last key, which the other cells have
-abbrev pub sorted_count : List ℕ → (n k : ℕ) → ℕ
-sorted_count w n k = begin_in w (10 * n) (4 * k - 1)
+-- one of the sorted cells zs that has this mark is followed by as many with it as its run says
+abbrev pub MarkedRuns : (zs ms rs : List ℕ) → (mark : ℕ) → Type 0
+MarkedRuns zs ms rs mark = (p j : ℕ) → p + j < length zs → get_or ms (get_or zs p 0) 0 ≡ mark → j ≤ get_or rs p 0 → get_or ms (get_or zs (p + j) 0) 0 ≡ mark
+
+-- each cell has a mark, and each place among the sorted cells a run of the mark of the cell that stands there
+pub record Marked (zs ms rs : List ℕ) : Type 0 where
+  pub marks : length ms ≡ length zs
+  pub runs : length rs ≡ length zs
+  pub all : (mark : ℕ) → MarkedRuns zs ms rs mark
 
 module _ (v : ValidParams) (n : ℕ) (ps : List ℤ) where
   abbrev pub geo : Geometry
@@ -74,25 +80,20 @@ module _ (v : ValidParams) (n : ℕ) (ps : List ℤ) where
   unfolding list_in own_row
   later_of c = let o = own_row (reach_of v) v n ps (cell_at geo c) in list_from (cell_at geo c) (c + 1) o (2 ^ (v.channels - 1) - o)
 
-  -- the words hold the core cells by bucket: from 10n where those of each bucket end, from 14n the cells
-  abbrev pub CellsSorted : List ℕ → Type 0
-  CellsSorted w = Sorted cell_key (length (cells geo)) (4 * length (cells geo)) (10 * n) (14 * n) w
+  -- where the cells of each bucket end, and the cells by bucket: the core cells, then the others
+  unfoldable pub cell_ends : List ℕ
+  unfolding start_of
+  cell_ends = let k = length (cells geo) in column (λ b. start_of cell_key k (b + 1)) (4 * k)
 
-  -- the words hold the cells, the core cells by bucket and, with marks below the list, the runs of marked ones
-  pub record CellsLaid (marks mark : ℕ) (w : List ℕ) : Type 0 where
-    pub ready : Ready ps v n
-    pub arranged : Arranged geo (length (cells geo)) w
-    pub sorted : CellsSorted w
-    pub fit : 16 * n ≤ length w
-    pub apart : marks + n ≤ 10 * n
-    pub runs : MarkedRuns w n (length (cells geo)) marks mark
+  unfoldable pub cell_places : List ℕ
+  unfolding places_of
+  cell_places = let k = length (cells geo) in places_of cell_key k (4 * k)
 
-  -- of the sorted cells from a up to b those with numbers from `after` on that lie in row r around frame i, and near it
+  -- the core cells among them: those before the last key, which the other cells have
+  unfoldable pub sorted_core : List ℕ
+  unfolding cell_places start_of
+  sorted_core = take (start_of cell_key (length (cells geo)) cell_buckets) cell_places
+
+  -- of the sorted cells from place a up to b those with numbers from `after` on that lie in row r around frame i, and near it
   abbrev pub near_by : (i after r : ℕ) → List ℕ → (a b : ℕ) → List ℕ
-  near_by i after r w a b = keep (near_in i after r) (part w (14 * n + a) (b - a))
-
-  -- the unmarked ones of these have room after the first m words of the list
-  pub record Listable (marks mark i after r m a b : ℕ) (w : List ℕ) : Type 0 where
-    pub laid : CellsLaid marks mark w
-    pub high : b ≤ length (cells geo)
-    pub room : m + length (unmarked w marks mark (near_by i after r w a b)) ≤ n
+  near_by i after r zs a b = keep (near_in i after r) (part zs a (b - a))

@@ -1,27 +1,26 @@
 -- Neighbours counted pair by pair: of two neighbours one finds the other in a row after its own, or in its own row as a later frame, and both counts rise. Definitions only.
-use Rattle.std.specs.Prelude.{Bool, not, ◌&&◌, cond, List, ◌++◌, map, ℕ, ◌+◌, ◌-◌, ◌*◌, ◌^◌, ◌<◌, ◌≤◌, ℤ, eqb, length, get_or, drop}
+use Rattle.std.specs.Prelude.{◌≡◌, Bool, not, ◌&&◌, cond, List, ◌++◌, map, ℕ, ◌+◌, ◌-◌, ◌*◌, ◌^◌, ◌<◌, ◌≤◌, ℤ, eqb, length, get_or, drop}
 use Rattle.std.proofs.Math.Dec.{leb}
 use Rattle.std.proofs.Math.ListN.{replicate}
-use Rattle.lists.specs.Lists.{numbers, keep, how_many, total, concat, Below}
-use Rattle.lists.specs.Words.{over, part, column, rest}
-use Rattle.lists.specs.Sorting.{begin_in, Sorted}
+use Rattle.lists.specs.Lists.{numbers, how_many, total, concat, Below}
+use Rattle.lists.specs.Words.{column, rest}
+use Rattle.lists.specs.Sorting.{begin_in}
 use Rattle.hyperparams.specs.declared.ValidParams.{ValidParams}
-use Rattle.counting_tree.specs.Ready.{geometry_at, Ready}
+use Rattle.counting_tree.specs.Ready.{geometry_at}
 use Rattle.blocks.specs.Blocks.{same_nats, frame_at, row_of, row_around, found_in}
 use Rattle.blocks.specs.BlockLaws.{which}
-use Rattle.cells_grid.specs.Cells.{cells, neighbour}
-use Rattle.cells_grid.specs.Arrangement.{Arranged}
-use Rattle.cells_grid.specs.Crowding.{itself, every, frame_key}
+use Rattle.cells_grid.specs.Cells.{neighbour}
+use Rattle.cells_grid.specs.Crowding.{itself, every}
 
--- n words of w from a on, each with as much added as its number stands among js
-unfoldable pub raised : List ℕ → (a n : ℕ) → List ℕ → List ℕ
-raised w a n js = over w a (column (λ x. get_or w (a + x) 0 + how_many (λ j. eqb x j) js) n)
+-- n words, with as much added to each as its number stands among js
+unfoldable pub raised : ℕ → List ℕ → List ℕ → List ℕ
+raised n w js = column (λ x. get_or w x 0 + how_many (λ j. eqb x j) js) n
 
--- these words are there, and what they become fits a word
-pub record Room (w : List ℕ) (a n : ℕ) (js : List ℕ) : Type 0 where
-  pub fit : a + n ≤ length w
+-- these are n words, and what they become fits a word
+pub record Room (n : ℕ) (w : List ℕ) (js : List ℕ) : Type 0 where
+  pub many : length w ≡ n
   pub below : Below n js
-  pub small : (x : ℕ) → x < n → get_or w (a + x) 0 + how_many (λ j. eqb x j) js ≤ 65535
+  pub small : (x : ℕ) → x < n → get_or w x 0 + how_many (λ j. eqb x j) js ≤ 65535
 
 -- how many numbers have key b, by the words that say where those of each key end
 unfoldable pub size_in : List ℕ → ℕ → ℕ → ℕ
@@ -34,13 +33,6 @@ unfolding size_in
 squares_in w ends size = total (λ b. size_in w ends b * size_in w ends b) (numbers size)
 
 module _ (v : ValidParams) (n : ℕ) (ps : List ℤ) where
-  -- the words hold the cells and the sorted frames
-  pub record Laid (w : List ℕ) : Type 0 where
-    pub ready : Ready ps v n
-    pub arranged : Arranged (geometry_at v n ps) (length (cells (geometry_at v n ps))) w
-    pub sorted : Sorted (frame_key v n ps) n (8 * n) (16 * n) (14 * n) w
-    pub fit : 24 * n ≤ length w
-
   -- the row around frame i in which frame j lies, if it lies within the tolerance
   abbrev pub row_for : ℕ → ℕ → ℕ
   row_for i j = which v.t (drop 1 (frame_at v.t v n ps i)) (drop 1 (frame_at v.t v n ps j))
@@ -52,16 +44,6 @@ module _ (v : ValidParams) (n : ℕ) (ps : List ℤ) where
   -- whether frame j comes from `low` on, and is a neighbour of frame i in row m of those around it
   abbrev pub later_in : (i low m j : ℕ) → Bool
   later_in i low m j = same_nats (row_of v.t v n ps j) (row_around v.t v n ps i m) && (leb low j && neighbour (geometry_at v n ps) i j)
-
-  -- those found among the sorted frames from a up to b
-  abbrev pub later_by : (i low m : ℕ) → List ℕ → (a b : ℕ) → List ℕ
-  later_by i low m w a b = keep (later_in i low m) (part w (14 * n + a) (b - a))
-
-  -- what the count of these asks: their counts, which stand from 10n on, have room
-  pub record Countable (i low m a b : ℕ) (w : List ℕ) : Type 0 where
-    pub laid : Laid w
-    pub fits : (a ≤ b) × (b ≤ n) × Below n (part w (14 * n + a) (b - a))
-    pub room : Room w (10 * n) n (later_by i low m w a b)
 
   -- those found in row m
   unfoldable pub later_row : (i low m : ℕ) → List ℕ

@@ -32,7 +32,7 @@ impl<'a> Around<'a> {
         requires { (i < frames.now.n) × (reach ≤ 131070) }
         ensures { (result.frames.now ≡ frames.now) × (result.i ≡ i) × (result.reach ≡ reach) }
     {
-        let width = 2 * reach + 1;
+        let width = blocks::width(reach);
         let first = blocks::edges_at(frames, width, reach, i);
         let hashes = blocks::row_hashes(first, width);
         let along = (first[0] / width) as usize;
@@ -46,19 +46,13 @@ impl<'a> Around<'a> {
         }
     }
 
-    // How wide the blocks are.
-    fn width(&self) -> u64
-        ensures { result ≡ Blocks.width self.now.reach }
-    {
-        2 * self.reach + 1
-    }
-
     // Which of the rows the frame lies in itself.
     pub(crate) fn own_row(&self) -> usize
         ensures value { let a = self.now in let f = a.frames.now in result ≡ own_row a.reach f.v f.n f.points.now a.i }
         ensures upper_bound { result < 2 ^ (self.now.frames.now.v.channels - 1) }
     {
-        blocks::own_row(self.frames, self.width(), self.first, self.i)
+        let width = blocks::width(self.reach);
+        blocks::own_row(self.frames, width, self.first, self.i)
     }
 
     // Whether frame j lies in row m.
@@ -66,7 +60,8 @@ impl<'a> Around<'a> {
         requires { j < self.now.frames.now.n }
         ensures { let a = self.now in let f = a.frames.now in result ≡ same_nats (row_of a.reach f.v f.n f.points.now j) (row_around a.reach f.v f.n f.points.now a.i m) }
     {
-        blocks::in_row(self.frames, self.width(), self.first, m, j)
+        let width = blocks::width(self.reach);
+        blocks::in_row(self.frames, width, self.first, m, j)
     }
 
     // Where row m stands among what is sorted by `size` buckets.

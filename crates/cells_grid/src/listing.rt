@@ -1,15 +1,15 @@
 // The core cells that a cell lists. They are sorted by the blocks of their first frames, 4 × t + 1 wide: so those near a frame lie in the rows around it.
-// From 10n up to 15n stand the sorted cells, from 15n on the list of one cell.
 ghost use Rattle.std.specs.Prelude.{◌≡◌, ℕ, ◌+◌, ◌-◌, ◌*◌, ◌^◌, ◌<◌, ◌≤◌, length, get_or};
 ghost use Rattle.lists.specs.Lists.{nonzero};
 ghost use Rattle.lists.specs.Words.{over, Clear};
 ghost use Rattle.counting_tree.specs.Given.{geometry};
-ghost use Rattle.blocks.specs.Blocks as Blocks;
 ghost use Rattle.blocks.specs.Blocks.{sorted_by};
 ghost use Rattle.cells_grid.specs.Cells.{cells, core_cell};
 ghost use Rattle.cells_grid.specs.Arrangement.{cell_at, Arranged};
-ghost use Rattle.cells_grid.specs.Listing.{reach_of, sorted_count, cell_key, near_in, near_by, unmarked, list_in, list_from, list_of, later_of, CellsSorted, MarkedRuns, CellsLaid, Listable};
+ghost use Rattle.cells_grid.specs.Listing.{reach_of, cell_key, near_in, near_by, list_in, list_from, list_of, later_of, cell_ends, cell_places, unlike, Marked};
+ghost use Rattle.cells_grid.specs.Passing.{Passes, Passes_prop, left_of, passed_at};
 
+use crate::SortedCells;
 use crate::around::Around;
 use blocks::KEYS;
 use counting_tree::Frames;
@@ -19,18 +19,10 @@ use lists::Word;
 // From 5n on: a word on the tree of each cell, 0 where it is no core cell.
 pub const TREES: usize = 5;
 
-// From 8n on, where marks are given: how many of the sorted cells right after each one have its mark. So these are passed at once.
-pub const RUNS: usize = 8;
-
-pub const LIST: usize = 15;
-
 // From 10n on stands where the cells of each bucket end, four words a cell: in all one more than there are buckets, for the cells that are not core.
 pub const ENDS: usize = 10;
 
-const BUCKETS: usize = 4;
-
-// One more than the greatest word: no cell is marked with it.
-const NO_WORD: usize = 65536;
+pub const BUCKETS: usize = 4;
 
 // How far the counts of the first frames of cells that list each other can differ.
 fn reach(v: ValidParams) -> u64
@@ -38,14 +30,6 @@ fn reach(v: ValidParams) -> u64
     ensures { result ≡ reach_of v }
 {
     2 * v.t
-}
-
-// How wide the blocks are.
-fn width(v: ValidParams) -> u64
-    requires { v.t ≤ 65535 }
-    ensures { result ≡ Blocks.width (reach_of v) }
-{
-    2 * reach(v) + 1
 }
 
 // The bucket of cell c's first frame, of 4 × k − 1; one more where it is no core cell.
@@ -60,10 +44,11 @@ fn cell_key(frames: &Frames, k: usize, work: &[Word], c: usize) -> usize
     if lists::word(work, TREES * n + c) == 0 {
         return size;
     }
-    blocks::key(frames, width(frames.v), size, lists::word(work, n + c))
+    let width = blocks::width(reach(frames.v));
+    blocks::key(frames, width, size, lists::word(work, n + c))
 }
 
-// Sorts the core cells by the buckets of their first frames' blocks: after it `list_cells`, `list_later` and `sorted_count` can be asked.
+// Sorts the core cells by the buckets of their first frames' blocks: from 10n on stands then where those of each bucket end, from 14n on the cells.
 pub fn sort_cells(frames: &Frames, k: usize, work: &mut [Word])
     requires ready { let f = frames.now in Arranged (geometry f) k work.old × (16 * f.n ≤ length work.old) × Clear work.old (10 * f.n) (6 * f.n) }
     requires by_index { (c : ℕ) → c < k → nonzero (get_or work.old (5 * frames.now.n + c) 0) ≡ core_cell (geometry frames.now) (cell_at (geometry frames.now) c) }
@@ -77,84 +62,99 @@ pub fn sort_cells(frames: &Frames, k: usize, work: &mut [Word])
     lists::clear_words(work, KEYS * n, k);
 }
 
-// How many core cells stand sorted: the others come after them.
-pub fn sorted_count(work: &[Word], n: usize, k: usize) -> usize
-    requires { (k ≤ n) × (16 * n ≤ length work.now) }
-    ensures { result ≡ sorted_count work.now n k }
-{
-    if k == 0 {
-        return 0;
-    }
-    lists::sorting::begins(work, ENDS * n, BUCKETS * k - 1)
+// Marked cells: the mark of each cell, how many of the sorted cells right after each one have its mark, and the mark of those that are passed. So a run of them is passed at once.
+#[derive(Clone, Copy)]
+struct Passed<'a> {
+    marks: &'a [Word],
+    runs: &'a [Word],
+    mark: Word,
 }
 
-// A search for the core cells whose first frames lie near a frame, of k cells. Those whose word from `marks` on is `mark` are left out.
+// A search for the core cells whose first frames lie near a frame, but for those that are passed.
 #[derive(Drop)]
 struct Search<'a> {
     around: Around<'a>,
-    k: usize,
-    marks: usize,
-    mark: usize,
+    firsts: &'a [Word],
+    ends: &'a [Word],
+    places: &'a [Word],
+    passed: Option<Passed<'a>>,
     ghost reach_is: { around.reach ≡ reach_of around.frames.now.v },
-    ghost k_is: { k ≡ length (cells (geometry around.frames.now)) },
-    ghost some: { 0 < k },
+    ghost firsts_are: { firsts.now ≡ cells (geometry around.frames.now) },
+    ghost ended: { let f = around.frames.now in ends.now ≡ cell_ends f.v f.n f.points.now },
+    ghost placed: { let f = around.frames.now in places.now ≡ cell_places f.v f.n f.points.now },
+    ghost some: { 0 < length places.now },
+    ghost runs: { Passes places.now passed } by { Passes_prop places.now passed },
 }
 
 impl<'a> Search<'a> {
-    fn new(frames: &'a Frames<'a>, k: usize, i: usize, marks: usize, mark: usize) -> Search<'a>
-        requires { (i < frames.now.n) × (k ≡ length (cells (geometry frames.now))) × (0 < k) }
-        ensures { (result.around.frames.now ≡ frames.now) × (result.around.i ≡ i) × (result.k ≡ k) × (result.marks ≡ marks) × (result.mark ≡ mark) }
+    fn new(cells: &'a SortedCells<'a>, i: usize, passed: Option<Passed<'a>>) -> Search<'a>
+        requires { (i < cells.now.grid.frames.n) × (0 < cells.now.grid.k) × Passes cells.now.places.now passed }
+        ensures { (result.around.frames.now ≡ cells.now.grid.frames) × (result.around.i ≡ i) × (result.places.now ≡ cells.now.places.now) × (result.passed ≡ passed.entry) }
     {
-        let around = Around::new(frames, reach(frames.v), i);
+        let n = cells.grid.frames.n;
+        let around = Around::new(&cells.grid.frames, reach(cells.grid.frames.v), i);
         Search {
             around,
-            k,
-            marks,
-            mark,
+            firsts: &cells.grid.work[n..n + cells.grid.k],
+            ends: cells.ends,
+            places: cells.places,
+            passed,
+        }
+    }
+
+    // How many of the sorted cells are passed from place p on, where cell d stands.
+    fn passed_at(&self, p: usize, d: usize) -> usize
+        requires { let s = self.now in (p < length s.places.now) × (d ≡ get_or s.places.now p 0) }
+        ensures value { let s = self.now in result ≡ passed_at s.passed p d }
+        ensures upper_bound { result ≤ 65536 }
+    {
+        match self.passed {
+            Some(passed) if passed.marks[d] == passed.mark => 1 + passed.runs[p] as usize,
+            _ => 0,
         }
     }
 
     // Whether cell d's number is `after` or more, and its first frame lies near, in row r.
     // (Nearly all cells of a stretch lie in the row, so the distance is asked before the row.)
-    fn finds(&self, work: &[Word], after: usize, r: usize, d: usize) -> bool
-        requires { let s = self.now in let f = s.around.frames.now in CellsLaid f.v f.n f.points.now s.marks s.mark work.now × (d < s.k) }
+    fn finds(&self, after: usize, r: usize, d: usize) -> bool
+        requires { d < length self.now.places.now }
         ensures { let a = self.now.around in let f = a.frames.now in result ≡ near_in f.v f.n f.points.now a.i after r d }
     {
         if d < after {
             return false;
         }
-        let frames = self.around.frames;
-        let j = lists::word(work, frames.n + d);
-        frames.near_cells(self.around.i, j) && self.around.has(r, j)
+        let j = self.firsts[d] as usize;
+        self.around.frames.near_cells(self.around.i, j) && self.around.has(r, j)
     }
 
-    // Of the sorted cells from `from` up to `end` writes the unmarked ones that are found in row r, with numbers from `after` on, after the m words from 15n on.
-    // Returns how many there are then. (Most cells are marked, so that is asked first, and those of a run are passed at once.)
+    // Of the sorted cells from `from` up to `end` writes those that are found in row r, with numbers from `after` on, after the first m words of the list.
+    // Returns how many there are then. (Most cells are passed, so that is asked first.)
     #[inline(always)]
     fn list_stretch(
         &self,
-        work: &mut [Word],
         after: usize,
         r: usize,
         from: usize,
         end: usize,
+        list: &mut [Word],
         m: usize,
     ) -> usize
-        requires { let s = self.now in let f = s.around.frames.now in Listable f.v f.n f.points.now s.marks s.mark s.around.i after r m from end work.old }
-        ensures value { let s = self.now in let f = s.around.frames.now in result ≡ m + length (unmarked work.old s.marks s.mark (near_by f.v f.n f.points.now s.around.i after r work.old from end)) }
-        ensures work_after { let s = self.now in let f = s.around.frames.now in work.new ≡ over work.old (15 * f.n + m) (unmarked work.old s.marks s.mark (near_by f.v f.n f.points.now s.around.i after r work.old from end)) }
+        requires { let s = self.now in let f = s.around.frames.now in (end ≤ length s.places.now)
+            × (m + length (left_of s.passed (near_by f.v f.n f.points.now s.around.i after r s.places.now from end)) ≤ length list.old) }
+        ensures value { let s = self.now in let f = s.around.frames.now in result ≡ m + length (left_of s.passed (near_by f.v f.n f.points.now s.around.i after r s.places.now from end)) }
+        ensures list { let s = self.now in let f = s.around.frames.now in list.new ≡ over list.old m (left_of s.passed (near_by f.v f.n f.points.now s.around.i after r s.places.now from end)) }
     {
-        let n = self.around.frames.n;
         let mut to = m;
         let mut p = from;
         while p < end {
-            let d = lists::word(work, blocks::PLACES * n + p);
-            if lists::word(work, self.marks + d) == self.mark {
-                p += 1 + lists::word(work, RUNS * n + p);
+            let d = self.places[p] as usize;
+            let run = self.passed_at(p, d);
+            if run > 0 {
+                p += run;
                 continue;
             }
-            if self.finds(work, after, r, d) {
-                work[LIST * n + to] = d as Word;
+            if self.finds(after, r, d) {
+                list[to] = d as Word;
                 to += 1;
             }
             p += 1;
@@ -162,64 +162,59 @@ impl<'a> Search<'a> {
         to
     }
 
-    // Writes the unmarked core cells that are found in row r, with numbers from `after` on, after the m words from 15n on.
-    // Returns how many there are then.
-    fn list_row(&self, work: &mut [Word], after: usize, r: usize, m: usize) -> usize
-        requires laid { let s = self.now in let f = s.around.frames.now in CellsLaid f.v f.n f.points.now s.marks s.mark work.old × (r < 2 ^ (f.v.channels - 1)) }
-        requires room { let s = self.now in let f = s.around.frames.now in m + length (unmarked work.old s.marks s.mark (list_in f.v f.n f.points.now s.around.i after r)) ≤ f.n }
-        ensures value { let s = self.now in let f = s.around.frames.now in result ≡ m + length (unmarked work.old s.marks s.mark (list_in f.v f.n f.points.now s.around.i after r)) }
-        ensures work_after { let s = self.now in let f = s.around.frames.now in work.new ≡ over work.old (15 * f.n + m) (unmarked work.old s.marks s.mark (list_in f.v f.n f.points.now s.around.i after r)) }
+    // Writes the core cells that are found in row r, with numbers from `after` on, after the first m words of the list. Returns how many there are then.
+    fn list_row(&self, after: usize, r: usize, list: &mut [Word], m: usize) -> usize
+        requires row { r < 2 ^ (self.now.around.frames.now.v.channels - 1) }
+        requires room { let s = self.now in let f = s.around.frames.now in m + length (left_of s.passed (list_in f.v f.n f.points.now s.around.i after r)) ≤ length list.old }
+        ensures value { let s = self.now in let f = s.around.frames.now in result ≡ m + length (left_of s.passed (list_in f.v f.n f.points.now s.around.i after r)) }
+        ensures list { let s = self.now in let f = s.around.frames.now in list.new ≡ over list.old m (left_of s.passed (list_in f.v f.n f.points.now s.around.i after r)) }
     {
-        let n = self.around.frames.n;
-        let s = self.around.stretch(work, ENDS * n, BUCKETS * self.k - 1, r);
-        let more = self.list_stretch(work, after, r, s.from, s.to, m);
-        self.list_stretch(work, after, r, 0, s.rest, more)
+        let s = self.around.stretch(self.ends, 0, self.ends.len() - 1, r);
+        let more = self.list_stretch(after, r, s.from, s.to, list, m);
+        self.list_stretch(after, r, 0, s.rest, list, more)
     }
 
-    // Writes the unmarked core cells that are found in the rows from `start` on, and in row `start` only those with numbers from `after` on, from 15n on. Returns how many there are.
-    fn list_rows(&self, work: &mut [Word], start: usize, after: usize) -> usize
-        requires laid { let s = self.now in let f = s.around.frames.now in CellsLaid f.v f.n f.points.now s.marks s.mark work.old × (start < 2 ^ (f.v.channels - 1)) }
-        requires room { let a = self.now.around in let f = a.frames.now in length (list_from f.v f.n f.points.now a.i after start (2 ^ (f.v.channels - 1) - start)) ≤ f.n }
-        ensures value { let s = self.now in let f = s.around.frames.now in result ≡ length (unmarked work.old s.marks s.mark (list_from f.v f.n f.points.now s.around.i after start (2 ^ (f.v.channels - 1) - start))) }
-        ensures work_after { let s = self.now in let f = s.around.frames.now in work.new ≡ over work.old (15 * f.n) (unmarked work.old s.marks s.mark (list_from f.v f.n f.points.now s.around.i after start (2 ^ (f.v.channels - 1) - start))) }
+    // Writes the core cells that are found in the rows from `start` on, and in row `start` only those with numbers from `after` on. Returns how many there are.
+    fn list_rows(&self, start: usize, after: usize, list: &mut [Word]) -> usize
+        requires start { start < 2 ^ (self.now.around.frames.now.v.channels - 1) }
+        requires room { let a = self.now.around in let f = a.frames.now in length (list_from f.v f.n f.points.now a.i after start (2 ^ (f.v.channels - 1) - start)) ≤ length list.old }
+        ensures value { let s = self.now in let f = s.around.frames.now in result ≡ length (left_of s.passed (list_from f.v f.n f.points.now s.around.i after start (2 ^ (f.v.channels - 1) - start))) }
+        ensures list { let s = self.now in let f = s.around.frames.now in list.new ≡ over list.old 0 (left_of s.passed (list_from f.v f.n f.points.now s.around.i after start (2 ^ (f.v.channels - 1) - start))) }
     {
         let mut m = 0;
         let mut least = after;
         for r in start..blocks::row_count(self.around.frames.v.channels) {
-            m = self.list_row(work, least, r, m);
+            m = self.list_row(least, r, list, m);
             least = 0;
         }
         m
     }
 }
 
-// Of the core cells that cell c lists and whose word from `marks` on is not `mark`, writes those in the rows from its own on, and of its own row those after c, from 15n on.
-// Returns how many there are. (Of two cells that list each other one finds the other so: the other need not look for it.)
-pub fn list_later(
-    frames: &Frames,
-    k: usize,
-    work: &mut [Word],
-    c: usize,
-    marks: usize,
-    mark: usize,
-) -> usize
-    requires ready { let f = frames.now in Arranged (geometry f) k work.old × CellsSorted f.v f.n f.points.now work.old × (c < k) × (16 * f.n ≤ length work.old) × (marks + f.n ≤ 10 * f.n) }
-    requires marked_runs { MarkedRuns work.old frames.now.n k marks mark }
-    ensures value { let f = frames.now in result ≡ length (unmarked work.old marks mark (later_of f.v f.n f.points.now c)) }
-    ensures work_after { let f = frames.now in work.new ≡ over work.old (15 * f.n) (unmarked work.old marks mark (later_of f.v f.n f.points.now c)) }
-{
-    let i = lists::word(work, frames.n + c);
-    let search = Search::new(frames, k, i, marks, mark);
-    search.list_rows(work, search.around.own_row(), c + 1)
-}
+impl SortedCells<'_> {
+    // Of the core cells that cell c lists and that have another mark, writes those in the rows from its own on, and of its own row those after c. Returns how many there are.
+    // (Of two cells that list each other one finds the other so: the other need not look for it.)
+    pub fn list_later(&self, marks: &[Word], runs: &[Word], c: usize, list: &mut [Word]) -> usize
+        requires cell { (c < self.now.grid.k) × (self.now.grid.k ≤ length list.old) }
+        requires marks { Marked self.now.places.now marks.now runs.now }
+        ensures value { let f = self.now.grid.frames in result ≡ length (unlike marks.now (later_of f.v f.n f.points.now) c) }
+        ensures list { let f = self.now.grid.frames in list.new ≡ over list.old 0 (unlike marks.now (later_of f.v f.n f.points.now) c) }
+    {
+        let passed = Passed {
+            marks,
+            runs,
+            mark: marks[c],
+        };
+        let search = Search::new(self, self.grid.first_of(c), Some(passed));
+        search.list_rows(search.around.own_row(), c + 1, list)
+    }
 
-// Writes the core cells that cell c lists from 15n on. Returns how many there are.
-pub fn list_cells(frames: &Frames, k: usize, work: &mut [Word], c: usize) -> usize
-    requires { let f = frames.now in Arranged (geometry f) k work.old × CellsSorted f.v f.n f.points.now work.old × (c < k) × (16 * f.n ≤ length work.old) }
-    ensures value { let f = frames.now in result ≡ length (list_of f.v f.n f.points.now c) }
-    ensures work_after { let f = frames.now in work.new ≡ over work.old (15 * f.n) (list_of f.v f.n f.points.now c) }
-{
-    let n = frames.n;
-    let i = lists::word(work, n + c);
-    Search::new(frames, k, i, TREES * n, NO_WORD).list_rows(work, 0, 0)
+    // Writes the core cells that cell c lists. Returns how many there are.
+    pub fn list_cells(&self, c: usize, list: &mut [Word]) -> usize
+        requires { (c < self.now.grid.k) × (self.now.grid.k ≤ length list.old) }
+        ensures value { let f = self.now.grid.frames in result ≡ length (list_of f.v f.n f.points.now c) }
+        ensures list { let f = self.now.grid.frames in list.new ≡ over list.old 0 (list_of f.v f.n f.points.now c) }
+    {
+        Search::new(self, self.grid.first_of(c), None).list_rows(0, 0, list)
+    }
 }

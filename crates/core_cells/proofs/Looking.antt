@@ -1,17 +1,19 @@
 -- The loops over the frames of a cell: the least number found of the core ones, whether one passes a test, and what all tell.
 use mathlib.Core.Path.{◌≡◌, refl, sym, ap, ◌∙◌}
-use mathlib.Core.Bool.{Bool, true, false, cond}
+use mathlib.Core.Bool.{Bool, true, false, cond, ◌&&◌, ◌||◌}
 use mathlib.Core.List.{List, [], ◌∷◌}
 use Prim.Native.Nat.{ℕ, suc, ◌+◌, ◌<◌, ◌≤◌, min}
 use native.Mathlib.Omega.{arith}
 use lib.ListN.{length, get_or, drop, drop_of_length-le}
 use lib.Seq.{drop-cons}
 use native.Mathlib.Numerals.{add-one}
-use Rattle.std.specs.Prelude.{Option, Some, None}
+use Rattle.std.specs.List.{list_any}
+use Rattle.std.specs.Prelude.{Option, Some, None, IfSome, unwrap_or}
 use Rattle.lists.specs.Lists.{keep, any}
 use Rattle.core_cells.specs.Nearest.{beyond, least_until}
 use Rattle.core_cells.specs.NearestLaws.{least_none, least_stop, least_next}
 use Rattle.core_cells.specs.Settling.{joined, joined_over}
+use Rattle.core_cells.specs.SettlingLaws.{no_not_yes, nothing_not_told}
 
 -- those of xs from place k on that pass p
 module _ (p : ℕ → Bool) (xs : List ℕ) where
@@ -28,103 +30,98 @@ module _ (p : ℕ → Bool) (xs : List ℕ) where
       ∙ ap (λ (m : ℕ). cond b (get_or xs k 0 ∷ left m) (left m)) (sym (add-one k))
 
 -- ---- what is found from place k on is found of all
-pub record Looking (p : ℕ → Bool) (enough : ℕ) (f : ℕ → ℕ) (xs : List ℕ) (least k : ℕ) : Type 0 where
-  pub bound : least ≤ beyond
-  pub value : least_until enough f least (left p xs k) ≡ least_until enough f beyond (keep p xs)
+pub record Looking (p : ℕ → Bool) (enough : ℕ) (f : ℕ → ℕ) (xs : List ℕ) (least : Option ℕ) (k : ℕ) : Type 0 where
+  pub bound : IfSome least (λ x. x ≤ beyond)
+  pub value : least_until enough f (unwrap_or least beyond) (left p xs k) ≡ least_until enough f beyond (keep p xs)
 
 module _ {p : ℕ → Bool} {enough : ℕ} {f : ℕ → ℕ} {xs : List ℕ} where
-  pub looking_start : Looking p enough f xs beyond 0
-  looking_start = record { bound = omega arith; value = refl }
+  pub looking_start : Looking p enough f xs None 0
+  looking_start = record { bound = tt; value = refl }
 
-  module _ {least k : ℕ} (I : Looking p enough f xs least k) (h : k < length xs) {b : Bool} (z : b ≡ p (get_or xs k 0)) where
+  module _ {least : Option ℕ} {k : ℕ} (I : Looking p enough f xs least k) (h : k < length xs) {b : Bool} (z : b ≡ p (get_or xs k 0)) where
     pub looking_miss : b ≡ false → Looking p enough f xs least (k + 1)
-    looking_miss q = record { bound = I.bound; value = ap (least_until enough f least) (sym (left_first p xs h (sym q ∙ z))) ∙ I.value }
+    looking_miss q = record { bound = I.bound; value = ap (least_until enough f (unwrap_or least beyond)) (sym (left_first p xs h (sym q ∙ z))) ∙ I.value }
 
     module _ (q : b ≡ true) {d : ℕ} (e : d ≡ f (get_or xs k 0)) where
-      first : least_until enough f least (get_or xs k 0 ∷ left p xs (k + 1)) ≡ least_until enough f beyond (keep p xs)
-      first = ap (least_until enough f least) (sym (left_first p xs h (sym q ∙ z))) ∙ I.value
+      first : least_until enough f (unwrap_or least beyond) (get_or xs k 0 ∷ left p xs (k + 1)) ≡ least_until enough f beyond (keep p xs)
+      first = ap (least_until enough f (unwrap_or least beyond)) (sym (left_first p xs h (sym q ∙ z))) ∙ I.value
 
       pub looking_stop : d < enough → d ≡ least_until enough f beyond (keep p xs)
-      looking_stop l = e ∙ sym (least_stop enough f least (get_or xs k 0) (left p xs (k + 1)) (omega arith)) ∙ first
+      looking_stop l = e ∙ sym (least_stop enough f (unwrap_or least beyond) (get_or xs k 0) (left p xs (k + 1)) (omega arith)) ∙ first
 
-      pub looking_more : enough ≤ d → Looking p enough f xs (min least d) (k + 1)
-      looking_more l = record {
-        bound = omega (arith, I.bound);
-        value = ap (λ (m : ℕ). least_until enough f (min least m) (left p xs (k + 1))) e ∙ sym (least_next enough f least (get_or xs k 0) (left p xs (k + 1)) (omega arith)) ∙ first;
-      }
+      pub looking_more : d ≤ beyond → enough ≤ d → {m r : ℕ} → m ≡ unwrap_or least d → r ≡ min m d → Looking p enough f xs (Some r) (k + 1)
+      looking_more b l {m} {r} em er =
+          let y : r ≡ min (unwrap_or least beyond) d = er ∙ ap (λ (m : ℕ). min m d) em ∙ lesser least in
+          record {
+            bound = omega arith;
+            value = ap (λ (m : ℕ). least_until enough f m (left p xs (k + 1))) (y ∙ ap (min (unwrap_or least beyond)) e)
+                ∙ sym (least_next enough f (unwrap_or least beyond) (get_or xs k 0) (left p xs (k + 1)) (omega arith)) ∙ first;
+          }
+        where
+          lesser : (o : Option ℕ) → min (unwrap_or o d) d ≡ min (unwrap_or o beyond) d
+          lesser None = omega arith
+          lesser (Some x) = refl
 
-  pub looking_end : {least k : ℕ} → Looking p enough f xs least k → length xs ≤ k → least ≡ least_until enough f beyond (keep p xs)
-  looking_end {least} I h = sym (ap (least_until enough f least) (left_end p xs h) ∙ least_none enough f least) ∙ I.value
+  pub looking_end : {least : Option ℕ} {k : ℕ} → Looking p enough f xs least k → length xs ≤ k → unwrap_or least beyond ≡ least_until enough f beyond (keep p xs)
+  looking_end {least} I h = sym (ap (least_until enough f (unwrap_or least beyond)) (left_end p xs h) ∙ least_none enough f (unwrap_or least beyond)) ∙ I.value
 
--- ---- whether one that passes p passes f: none before place k does
-pub record Seeking (p f : ℕ → Bool) (xs : List ℕ) (k : ℕ) : Type 0 where
-  pub value : any f (left p xs k) ≡ any f (keep p xs)
+-- ---- whether one passes both p and f
+pub any_kept : (p f : ℕ → Bool) (xs : List ℕ) → list_any (λ x. p x && f x) xs ≡ any f (keep p xs)
+any_kept p f [] = refl
+any_kept p f (x ∷ xs) = go (p x) (any_kept p f xs)
+  where
+    tail : (b : Bool) {r : Bool} → r ≡ any f (keep p xs) → (b || r) ≡ cond b true (any f (keep p xs))
+    tail true e = refl
+    tail false e = e
 
-module _ {p f : ℕ → Bool} {xs : List ℕ} where
-  pub seeking_start : Seeking p f xs 0
-  seeking_start = record { value = refl }
+    go : (a : Bool) {r : Bool} → r ≡ any f (keep p xs) → ((a && f x) || r) ≡ any f (cond a (x ∷ keep p xs) (keep p xs))
+    go true e = tail (f x) e
+    go false e = e
 
-  module _ {k : ℕ} (I : Seeking p f xs k) (h : k < length xs) {b : Bool} (z : b ≡ p (get_or xs k 0)) where
-    pub seeking_miss : b ≡ false → Seeking p f xs (k + 1)
-    seeking_miss q = record { value = ap (any f) (sym (left_first p xs h (sym q ∙ z))) ∙ I.value }
+-- ---- what f tells of those from place k on, with what is told of those before, is what it tells of all: of those before it tells nothing, or false
+pub record Joining (p : ℕ → Bool) (f : ℕ → Option Bool) (xs : List ℕ) (told : Option Bool) (k : ℕ) : Type 0 where
+  pub so_far : told ≡ Some true → ⊥
+  pub value : joined told (joined_over f (left p xs k)) ≡ joined_over f (keep p xs)
 
-    module _ (q : b ≡ true) {t : Bool} (e : t ≡ f (get_or xs k 0)) where
-      with_first : {u : Bool} → t ≡ u → cond u true (any f (left p xs (k + 1))) ≡ any f (keep p xs)
-      with_first y = ap (λ (a : Bool). cond a true (any f (left p xs (k + 1)))) (sym y ∙ e) ∙ ap (any f) (sym (left_first p xs h (sym q ∙ z))) ∙ I.value
+open_stays : (o t : Option Bool) → (o ≡ Some true → ⊥) → joined o (joined None t) ≡ joined None t
+open_stays None None h = refl
+open_stays None (Some true) h = refl
+open_stays None (Some false) h = refl
+open_stays (Some false) t h = refl
+open_stays (Some true) t h = absurd (h refl)
 
-      pub seeking_found : t ≡ true → true ≡ any f (keep p xs)
-      seeking_found y = with_first y
+after_yes : (o : Option Bool) → joined o (Some true) ≡ Some true
+after_yes None = refl
+after_yes (Some false) = refl
+after_yes (Some true) = refl
 
-      pub seeking_pass : t ≡ false → Seeking p f xs (k + 1)
-      seeking_pass y = record { value = with_first y }
-
-  pub seeking_end : {k : ℕ} → Seeking p f xs k → length xs ≤ k → false ≡ any f (keep p xs)
-  seeking_end I h = ap (any f) (sym (left_end p xs h)) ∙ I.value
-
--- ---- what f tells of those from place k on, with what is told of those before, is what it tells of all:
--- of those before it tells nothing, if one is unsettled, or else false
-abbrev pub so_far : Bool → Option Bool
-so_far unsettled = cond unsettled None (Some false)
-
-pub record Joining (p : ℕ → Bool) (f : ℕ → Option Bool) (xs : List ℕ) (unsettled : Bool) (k : ℕ) : Type 0 where
-  pub value : joined (so_far unsettled) (joined_over f (left p xs k)) ≡ joined_over f (keep p xs)
-
-after_yes : (b : Bool) → joined (so_far b) (Some true) ≡ Some true
-after_yes true = refl
-after_yes false = refl
-
-after_open : (b : Bool) (t : Option Bool) → joined (so_far b) (joined None t) ≡ joined None t
-after_open false t = refl
-after_open true (Some false) = refl
-after_open true (Some true) = refl
-after_open true None = refl
-
-after_none : (b : Bool) → joined (so_far b) (Some false) ≡ so_far b
-after_none true = refl
-after_none false = refl
+after_none : (o : Option Bool) → (o ≡ Some true → ⊥) → joined o (Some false) ≡ o
+after_none None h = refl
+after_none (Some false) h = refl
+after_none (Some true) h = absurd (h refl)
 
 module _ {p : ℕ → Bool} {f : ℕ → Option Bool} {xs : List ℕ} where
-  pub joining_start : Joining p f xs false 0
-  joining_start = record { value = refl }
+  pub joining_start : Joining p f xs (Some false) 0
+  joining_start = record { so_far = λ e. no_not_yes e; value = refl }
 
-  module _ {b : Bool} {k : ℕ} (I : Joining p f xs b k) (h : k < length xs) {a : Bool} (z : a ≡ p (get_or xs k 0)) where
-    pub joining_miss : a ≡ false → Joining p f xs b (k + 1)
-    joining_miss q = record { value = ap (λ (ys : List ℕ). joined (so_far b) (joined_over f ys)) (sym (left_first p xs h (sym q ∙ z))) ∙ I.value }
+  module _ {o : Option Bool} {k : ℕ} (I : Joining p f xs o k) (h : k < length xs) {a : Bool} (z : a ≡ p (get_or xs k 0)) where
+    pub joining_miss : a ≡ false → Joining p f xs o (k + 1)
+    joining_miss q = record { so_far = I.so_far; value = ap (λ (ys : List ℕ). joined o (joined_over f ys)) (sym (left_first p xs h (sym q ∙ z))) ∙ I.value }
 
     module _ (q : a ≡ true) {t : Option Bool} (e : t ≡ f (get_or xs k 0)) where
-      told : {u : Option Bool} → t ≡ u → joined (so_far b) (joined u (joined_over f (left p xs (k + 1)))) ≡ joined_over f (keep p xs)
-      told y =
-          ap (λ (u : Option Bool). joined (so_far b) (joined u (joined_over f (left p xs (k + 1))))) (sym y ∙ e)
-          ∙ ap (λ (ys : List ℕ). joined (so_far b) (joined_over f ys)) (sym (left_first p xs h (sym q ∙ z))) ∙ I.value
+      told : joined o (joined t (joined_over f (left p xs (k + 1)))) ≡ joined_over f (keep p xs)
+      told =
+          ap (λ (u : Option Bool). joined o (joined u (joined_over f (left p xs (k + 1))))) e
+          ∙ ap (λ (ys : List ℕ). joined o (joined_over f ys)) (sym (left_first p xs h (sym q ∙ z))) ∙ I.value
 
-      pub joining_no : t ≡ Some false → Joining p f xs b (k + 1)
-      joining_no y = record { value = told y }
+    pub joining_no : a ≡ true → Some false ≡ f (get_or xs k 0) → Joining p f xs o (k + 1)
+    joining_no q e = record { so_far = I.so_far; value = told q e }
 
-      pub joining_open : t ≡ None → Joining p f xs true (k + 1)
-      joining_open y = record { value = sym (after_open b (joined_over f (left p xs (k + 1)))) ∙ told y }
+    pub joining_open : a ≡ true → None ≡ f (get_or xs k 0) → Joining p f xs None (k + 1)
+    joining_open q e = record { so_far = λ e. nothing_not_told e; value = sym (open_stays o (joined_over f (left p xs (k + 1))) I.so_far) ∙ told q e }
 
-      pub joining_yes : t ≡ Some true → Some true ≡ joined_over f (keep p xs)
-      joining_yes y = sym (after_yes b) ∙ told y
+    pub joining_yes : a ≡ true → Some true ≡ f (get_or xs k 0) → Some true ≡ joined_over f (keep p xs)
+    joining_yes q e = sym (after_yes o) ∙ told q e
 
-  pub joining_end : {b : Bool} {k : ℕ} → Joining p f xs b k → length xs ≤ k → so_far b ≡ joined_over f (keep p xs)
-  joining_end {b} I h = sym (ap (λ (ys : List ℕ). joined (so_far b) (joined_over f ys)) (left_end p xs h) ∙ after_none b) ∙ I.value
+  pub joining_end : {o : Option Bool} {k : ℕ} → Joining p f xs o k → length xs ≤ k → o ≡ joined_over f (keep p xs)
+  joining_end {o} I h = sym (ap (λ (ys : List ℕ). joined o (joined_over f ys)) (left_end p xs h) ∙ after_none o I.so_far) ∙ I.value

@@ -1,17 +1,18 @@
 -- The tree of one cell: its core frames are gathered, its tree is built from them if they are more than a few, and they are cleared again.
-use mathlib.Core.Path.{◌≡◌, sym, ap, ap₂, subst, ◌∙◌}
+use mathlib.Core.Path.{◌≡◌, refl, sym, ap, ap₂, subst, ◌∙◌}
 use mathlib.Core.Bool.{true, false}
-use mathlib.Core.List.{List, [], ◌∷◌}
+use mathlib.Core.List.{List, [], ◌∷◌, ◌++◌}
 use Prim.Native.Nat.{ℕ, ◌+◌, ◌-◌, ◌*◌, ◌/◌, ◌<◌, ◌≤◌}
 use native.Mathlib.Omega.{arith}
 use native.Mathlib.Nat.{le_refl}
 use lib.IntN.{ℤ}
-use lib.ListN.{length, get_or, set, replicate, length-replicate}
+use lib.ListN.{length, take, drop, get_or, set, replicate, length-replicate, length-drop}
+use Rattle.std.proofs.Common.{append_assoc, drop-drop}
 use Rattle.lists.specs.Lists.{Below, nonzero}
 use Rattle.lists.specs.Words.{over, part, Clear}
 use Rattle.lists.specs.ListLaws.{nonzero_true}
-use Rattle.lists.proofs.WordLaws.{over_length, over_nil, over_again, over_apart, set_over}
-use Rattle.lists.proofs.PartLaws.{set_under, part_same, clear_over, clear_after, clear_within}
+use Rattle.lists.proofs.WordLaws.{over_length, over_nil, over_again, over_apart, set_over, put_over}
+use Rattle.lists.proofs.PartLaws.{set_under, part_length, part_add, part_part, part_at, part_same, clear_over, clear_after, clear_within}
 use Rattle.hyperparams.specs.Params.{max_frames, work_words}
 use Rattle.hyperparams.specs.declared.ValidParams.{ValidParams}
 use Rattle.counting_tree.specs.Geometry.{Geometry}
@@ -23,7 +24,7 @@ use Rattle.cells_grid.specs.Arrangement.{cell_at, start_at, Cored}
 use Rattle.cells_grid.specs.Places.{end_in}
 use Rattle.cells_grid.proofs.ArrangementLaws.{start_next, start_le, words_count, cell_size, cell_end_le, cell_places}
 use Rattle.tree_structure.specs.Encode.{size, encode, encode_length}
-use Rattle.tree_structure.specs.Work.{max_levels, max_nodes, CanBuild}
+use Rattle.tree_structure.specs.Work.{max_levels, max_nodes, Room}
 use Rattle.core_cells.specs.Forest.{core_among, CanGather, tree_frames, is_core, tree_size, tree_words, nodes_to, tree_word}
 use Rattle.core_cells.specs.ForestLaws.{cell_below, among_core, frames_below, frames_le, core_frames, no_core_frames, no_core_word, small_word, small_words, small_size}
 use Rattle.core_cells.specs.ForestLaws.{tree_word_lem, tree_words_lem, tree_size_lem, nodes_next, nodes_fit, nodes_most}
@@ -157,36 +158,85 @@ module _ {g : Geometry} {n k : ℕ} {w : List ℕ} {few c at m : ℕ} {w₁ : Li
     abbrev E : List ℕ
     E = encode g.same g.levels 0 M
 
-    fits : at + length E ≤ length w
+    pub fits : at + length E ≤ length w
     fits = omega (arith, G.place, G.inside, encode_length g.same g.levels 0 M, tree_size_lem g few c long, nodes_next g few c, nodes_room R few (c + 1) (omega (arith, G.inside)))
 
-    above : 16 * n ≤ at
+    pub above : 16 * n ≤ at
     above = omega (arith, G.place)
 
-    laid : part w₁ (10 * n) (10 * n + m - 10 * n) ≡ M
-    laid =
-        let l : 10 * n + m - 10 * n ≡ m = omega arith in
-        ap₂ (λ (y : List ℕ) (j : ℕ). part y (10 * n) j) G.work l ∙ part_same w (10 * n) m M (omega (arith, fit)) (sym G.count)
-
+    -- its words are cut: the gathered frames stand in the first, those to copy and to sort them in are 0
     clear : (b : ℕ) → 11 * n ≤ b → b + m ≤ 13 * n → Clear w₁ b m
     clear b p q =
         subst (λ (y : List ℕ). Clear y b m) (sym G.work)
         (clear_after w b m (10 * n) M (omega (arith, fit)) (omega (arith, G.count, G.most)) (clear_within w (10 * n) (3 * n) b m R.blank (omega arith) (omega arith)))
 
-    pub can_build : CanBuild g.same n w₁ (10 * n) (10 * n + m) (11 * n) (12 * n) at g.levels
-    can_build =
+    kept : (b j : ℕ) → 11 * n ≤ b → b + m ≤ 13 * n → m ≤ j → b + j ≤ length w₁ → over (part w₁ b j) 0 (replicate m 0) ≡ part w₁ b j
+    kept b j p q h f =
+        clear_over (part w₁ b j) 0 m (omega (arith, part_length w₁ b j f))
+        (λ i t. let z : 0 + i ≡ i = omega arith in ap (λ (x : ℕ). get_or (part w₁ b j) x 0) z ∙ part_at w₁ b j i (omega arith) ∙ clear b p q i t)
+
+    laid : part (take (11 * n) w₁) (10 * n) (10 * n + m - 10 * n) ≡ M
+    laid =
         let l : 10 * n + m - 10 * n ≡ m = omega arith in
-        record {
-          some = omega arith;
-          few = omega (arith, G.most, R.few);
-          before = omega (arith, G.most);
-          copied = omega (arith, G.most);
-          after = omega (arith, G.most, above);
-          below = subst (Below n) (sym laid) (subst (λ (x : ℕ). Below x M) R.frames (frames_below g c));
-          clear_copy = rw l (clear (11 * n) (omega arith) (omega (arith, G.most)));
-          clear = rw l (clear (12 * n) (omega arith) (omega (arith, G.most)));
-          room = rw laid (omega (arith, fits, gathered_length, encode_length g.same g.levels 0 M));
-        }
+        let z : 0 + 10 * n ≡ 10 * n = omega arith in
+        ap (part (take (11 * n) w₁) (10 * n)) l
+        ∙ part_part w₁ 0 (11 * n) (10 * n) m (omega (arith, G.most))
+        ∙ ap₂ (λ (y : List ℕ) (a : ℕ). part y a m) G.work z ∙ part_same w (10 * n) m M (omega (arith, fit)) (sym G.count)
+
+    module _ {F B C D S N : List ℕ} (eF : F ≡ take (11 * n) w₁) (eB : B ≡ drop (11 * n) w₁) (eC : C ≡ take n B) (eD : D ≡ drop n B) (eS : S ≡ take (at - 12 * n) D) (eN : N ≡ drop (at - 12 * n) D) where
+      abbrev P : List ℕ
+      P = part F (10 * n) (10 * n + m - 10 * n)
+
+      pub frames_laid : P ≡ M
+      frames_laid = ap (λ (y : List ℕ). part y (10 * n) (10 * n + m - 10 * n)) eF ∙ laid
+
+      rest_is : D ≡ drop (12 * n) w₁
+      rest_is =
+          let z : 11 * n + n ≡ 12 * n = omega arith in
+          eD ∙ ap (drop n) eB ∙ drop-drop n (11 * n) w₁ ∙ ap (λ (a : ℕ). drop a w₁) z
+
+      nodes_is : N ≡ drop at w₁
+      nodes_is =
+          let z : 12 * n + (at - 12 * n) ≡ at = omega (arith, above) in
+          eN ∙ ap (drop (at - 12 * n)) rest_is ∙ drop-drop (at - 12 * n) (12 * n) w₁ ∙ ap (λ (a : ℕ). drop a w₁) z
+
+      scratch_is : S ≡ part w₁ (12 * n) (at - 12 * n)
+      scratch_is = eS ∙ ap (take (at - 12 * n)) rest_is
+
+      copy_is : C ≡ part w₁ (11 * n) n
+      copy_is = eC ∙ ap (take n) eB
+
+      pub can_build : Room g.same n g.levels 0 P S N
+      can_build = rw frames_laid record {
+        some = omega arith;
+        few = omega (arith, G.count, G.most, R.few);
+        below = subst (λ (x : ℕ). Below x M) R.frames (frames_below g c);
+        sorting = omega (arith, G.count, G.most, above, ap length scratch_is, part_length w₁ (12 * n) (at - 12 * n) (omega (arith, above, fits, gathered_length)));
+        most = omega (arith, tree_size_lem g few c long, nodes_next g few c, nodes_most g few R.lawful (omega (arith, R.frames, R.few)) R.low (c + 1) (omega (arith, G.inside, R.cored.cells.count)));
+        room = omega (arith, fits, gathered_length, encode_length g.same g.levels 0 M, ap length nodes_is, length-drop at w₁);
+      }
+
+      front : F ++ (C ++ S) ≡ take at w₁
+      front =
+          let r = at - 12 * n in
+          let p : at ≡ 11 * n + (n + r) = omega (arith, above) in
+          let a : 0 + 11 * n ≡ 11 * n = omega arith in
+          let b : 11 * n + n ≡ 12 * n = omega arith in
+          ap₂ (λ (p q : List ℕ). p ++ q) eF (ap₂ (λ (p q : List ℕ). p ++ q) copy_is scratch_is)
+          ∙ sym (ap (λ (x : ℕ). part w₁ 0 x) p ∙ part_add w₁ 0 (11 * n) (n + r) ∙ ap (λ (x : ℕ). take (11 * n) w₁ ++ part w₁ x (n + r)) a
+          ∙ ap (λ (y : List ℕ). take (11 * n) w₁ ++ y) (part_add w₁ (11 * n) n r ∙ ap (λ (x : ℕ). part w₁ (11 * n) n ++ part w₁ x r) b))
+
+      pub built : {C' S' N' : List ℕ} → C' ≡ over C 0 (replicate (length P) 0) → S' ≡ over S 0 (replicate (length P) 0) → N' ≡ over N 0 (encode g.same g.levels 0 P) → F ++ (C' ++ (S' ++ N')) ≡ over w₁ at E
+      built {C'} {S'} {N'} uC uS uN =
+          let lp : length P ≡ m = ap length frames_laid ∙ sym G.count in
+          let zc : C' ≡ C = uC ∙ ap₂ (λ (y : List ℕ) (j : ℕ). over y 0 (replicate j 0)) copy_is lp ∙ kept (11 * n) n (omega arith) (omega (arith, G.most)) G.most (omega (arith, fit, gathered_length)) ∙ sym copy_is in
+          let zs : S' ≡ S = uS ∙ ap₂ (λ (y : List ℕ) (j : ℕ). over y 0 (replicate j 0)) scratch_is lp
+          ∙ kept (12 * n) (at - 12 * n) (omega arith) (omega (arith, G.most)) (omega (arith, G.most, above)) (omega (arith, above, fits, gathered_length)) ∙ sym scratch_is in
+          let zn : N' ≡ E ++ drop (length E) N = uN ∙ ap (λ (y : List ℕ). over N 0 (encode g.same g.levels 0 y)) frames_laid ∙ sym (put_over N 0 (length E) E refl) in
+          let X : List ℕ = E ++ drop (length E) N in
+          ap₂ (λ (p q : List ℕ). F ++ (p ++ q)) zc (ap₂ (λ (p q : List ℕ). p ++ q) zs zn)
+          ∙ ap (λ (y : List ℕ). F ++ y) (sym (append_assoc C S X)) ∙ sym (append_assoc F (C ++ S) X)
+          ∙ ap₂ (λ (p q : List ℕ). p ++ (E ++ drop (length E) q)) front nodes_is ∙ put_over w₁ at (length E) E refl
 
     -- the word that says where the tree begins
     word : 2 + (at - 16 * n) / 4 ≡ tree_word g few c
@@ -195,14 +245,13 @@ module _ {g : Geometry} {n k : ℕ} {w : List ℕ} {few c at m : ℕ} {w₁ : Li
     pub word_low : 2 + (at - 16 * n) / 4 ≤ 2 + max_nodes
     word_low = omega (arith, word, tree_word_lem g few c long, nodes_most g few R.lawful (omega (arith, R.frames, R.few)) R.low c (omega (arith, G.inside, R.cored.cells.count)))
 
-    module _ {r : ℕ} {w₂ : List ℕ} (er : r ≡ at + 4 * size g.same g.levels 0 (part w₁ (10 * n) (10 * n + m - 10 * n)))
-        (e₂ : w₂ ≡ over w₁ at (encode g.same g.levels 0 (part w₁ (10 * n) (10 * n + m - 10 * n)))) where
-      pub some_next : r ≡ at + 4 * tree_size g few c
-      some_next = er ∙ ap (λ (x : List ℕ). at + 4 * size g.same g.levels 0 x) laid ∙ ap (λ (x : ℕ). at + 4 * x) (sym (tree_size_lem g few c long))
+    pub tree_room : {ys : List ℕ} → ys ≡ M → {r : ℕ} → r ≡ size g.same g.levels 0 ys → at + 4 * r ≤ length w
+    tree_room ey er = omega (arith, er, ap (size g.same g.levels 0) ey, encode_length g.same g.levels 0 M, fits)
 
-      built : w₂ ≡ over w₁ at E
-      built = e₂ ∙ ap (λ (x : List ℕ). over w₁ at (encode g.same g.levels 0 x)) laid
+    pub some_next : {ys : List ℕ} → ys ≡ M → {r : ℕ} → r ≡ size g.same g.levels 0 ys → at + 4 * r ≡ at + 4 * tree_size g few c
+    some_next ey er = ap (λ (x : ℕ). at + 4 * x) (er ∙ ap (size g.same g.levels 0) ey ∙ sym (tree_size_lem g few c long))
 
+    module _ {w₂ : List ℕ} (built : w₂ ≡ over w₁ at E) where
       pub built_length : length w₂ ≡ length w
       built_length = ap length built ∙ over_length w₁ at E (omega (arith, fits, gathered_length)) ∙ gathered_length
 

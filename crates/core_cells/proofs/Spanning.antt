@@ -5,15 +5,18 @@ use mathlib.Core.List.{List, [], ◌∷◌, map}
 use Prim.Native.Nat.{ℕ, ◌+◌, ◌-◌, ◌*◌, ◌<◌, ◌≤◌, min, max}
 use native.Mathlib.Omega.{arith}
 use native.Mathlib.Numerals.{add-one}
-use native.Mathlib.Nat.{mul-le-mul, lt_of_le_of_lt}
+use native.Mathlib.Nat.{lt_of_le_of_lt}
 use borrow.Author.Tests.{lt-ltb, le-ltb}
 use lib.IntN.{ℤ}
 use lib.ListN.{length, get_or, replicate, drop, drop_of_length-le}
 use lib.Seq.{drop-cons}
-use Rattle.lists.specs.Lists.{In, Below}
-use Rattle.lists.specs.Words.{over}
-use Rattle.lists.specs.ListLaws.{map_same}
-use Rattle.lists.specs.OrderLaws.{below_at}
+use Rattle.std.proofs.lemmas.List.{take_all}
+use Rattle.lists.specs.Lists.{In, Below, numbers, total}
+use Rattle.lists.specs.Words.{over, column}
+use Rattle.lists.specs.ListLaws.{map_same, in_numbers}
+use Rattle.lists.specs.CountLaws.{total_append}
+use Rattle.lists.specs.OrderLaws.{below_at, numbers_snoc}
+use Rattle.lists.proofs.PartLaws.{column_part}
 use Rattle.hyperparams.specs.declared.ValidParams.{ValidParams}
 use Rattle.counting_tree.specs.Frames.{Frame, frames_in}
 use Rattle.counting_tree.specs.Given.{geometry}
@@ -47,16 +50,19 @@ module _ {ps : List ℤ} {v : ValidParams} {n : ℕ} (r : Ready ps v n) (i : ℕ
   raised_low b k l = below_at 65536 row k b (omega (arith, ap length e, row_long r i h 1 0))
 
 -- ---- in each channel
-module _ (a b : List ℕ) {x y z t : ℕ} where
-  pub lowest_is : x ≡ min (get_or a 0 0) (get_or b 0 0) → y ≡ min (get_or a 1 0) (get_or b 1 0) → z ≡ min (get_or a 2 0) (get_or b 2 0) → t ≡ min (get_or a 3 0) (get_or b 3 0)
-      → ◌≡◌ {A = List ℕ} (x ∷ y ∷ z ∷ t ∷ []) (lowest a b)
-  unfolding lowest
-  lowest_is ex ey ez et = rw (ex, ey, ez, et)
+four_are : (h : ℕ → ℕ) {ys : List ℕ} → length ys ≡ 4 → ((i : ℕ) → i < 4 → get_or ys i 0 ≡ h i) → ys ≡ column h 4
+four_are h {ys} e each =
+    sym (take_all 4 ys (omega arith)) ∙ sym (column_part ys 0 4 (omega arith))
+    ∙ map_same (λ i. get_or ys (0 + i) 0) h (numbers 4) (λ i j. let z : 0 + i ≡ i = omega arith in ap (λ (k : ℕ). get_or ys k 0) z ∙ each i (in_numbers 4 i j))
 
-  pub highest_is : x ≡ max (get_or a 0 0) (get_or b 0 0) → y ≡ max (get_or a 1 0) (get_or b 1 0) → z ≡ max (get_or a 2 0) (get_or b 2 0) → t ≡ max (get_or a 3 0) (get_or b 3 0)
-      → ◌≡◌ {A = List ℕ} (x ∷ y ∷ z ∷ t ∷ []) (highest a b)
+module _ (a b : List ℕ) {ys : List ℕ} (e : length ys ≡ 4) where
+  pub lowest_is : ((i : ℕ) → i < 4 → get_or ys i 0 ≡ min (get_or a i 0) (get_or b i 0)) → ys ≡ lowest a b
+  unfolding lowest
+  lowest_is each = four_are (λ i. min (get_or a i 0) (get_or b i 0)) e each
+
+  pub highest_is : ((i : ℕ) → i < 4 → get_or ys i 0 ≡ max (get_or a i 0) (get_or b i 0)) → ys ≡ highest a b
   unfolding highest
-  highest_is ex ey ez et = rw (ex, ey, ez, et)
+  highest_is each = four_are (λ i. max (get_or a i 0) (get_or b i 0)) e each
 
 -- ---- what the frames from place k on give is what all give, for the low and the high ends
 pub record Spanning (f : ℕ → List ℕ) (x : ℕ) (xs : List ℕ) (span : Span) (k : ℕ) : Type 0 where
@@ -91,54 +97,62 @@ low_ends f x xs {s} e {first} ef b i h =
     let W : Within s (f x) = subst (λ (t : Span). Within t (f x)) (sym e) (span_first f x xs) in
     lt_of_le_of_lt (W.low i h) (subst (λ (r : List ℕ). get_or r i 0 < 65536) ef (b i h))
 
--- ---- ranges
+-- ---- the squares of the first k channels
 module _ (a b : Span) where
   abbrev at : ℕ → ℕ
   at i = gap (get_or a.low i 0) (get_or a.high i 0) (get_or b.low i 0) (get_or b.high i 0)
 
-  pub gaps_are : {x y z t : ℕ} → x ≡ at 0 → y ≡ at 1 → z ≡ at 2 → t ≡ at 3 → x + y + z + t ≡ square_gap a b
-  unfolding square_gap
-  gaps_are ex ey ez et = omega arith
+  pub record Adding (square k : ℕ) : Type 0 where
+    pub value : square ≡ total at (numbers k)
+    pub bound : square ≤ k * 4294967296
 
-pub square_small : (d : ℕ) → d < 65536 → d * d ≤ 4294836225
-square_small d h = mul-le-mul {n₂ = 65535} {m₂ = 65535} (omega arith) (omega arith)
+  module _ {square k : ℕ} (I : Adding square k) where
+    pub adding_step : {d : ℕ} → d ≡ at k → d ≤ 4294967296 → Adding (square + d) (k + 1)
+    adding_step {d} e l = record {
+      value = ap (λ (x : ℕ). square + x) e ∙ omega (arith, I.value, total_append at (numbers k) (k ∷ []), ap (total at) (numbers_snoc k));
+      bound = omega (arith, I.bound);
+    }
+
+    pub adding_end : k ≡ 4 → square ≡ square_gap a b
+    unfolding square_gap
+    adding_end e = I.value ∙ ap (λ (n : ℕ). total at (numbers n)) e
 
 -- ---- the span of a cell
-pub cell_span_lem : (s : CoreCells) (c : ℕ) {x : ℕ} → x ≡ cell_at (geometry s.frames) c → {xs : List ℕ} → xs ≡ members (geometry s.frames) (cell_at (geometry s.frames) c)
-    → {span : Span} → span ≡ span_from (raised_at s.frames.v s.frames.n s.frames.points.now) x xs → span ≡ cell_span s.frames.v s.frames.n s.frames.points.now c
+pub cell_span_lem : (s : CoreCells) (c : ℕ) {x : ℕ} → x ≡ cell_at (geometry s.grid.frames) c → {xs : List ℕ} → xs ≡ members (geometry s.grid.frames) (cell_at (geometry s.grid.frames) c)
+    → {span : Span} → span ≡ span_from (raised_at s.grid.frames.v s.grid.frames.n s.grid.frames.points.now) x xs → span ≡ cell_span s.grid.frames.v s.grid.frames.n s.grid.frames.points.now c
 unfolding cell_span
-cell_span_lem s c ex el es = es ∙ ap₂ (span_from (raised_at s.frames.v s.frames.n s.frames.points.now)) ex el
+cell_span_lem s c ex el es = es ∙ ap₂ (span_from (raised_at s.grid.frames.v s.grid.frames.n s.grid.frames.points.now)) ex el
 
 -- ---- two cells with the frames xs and ys
 module _ (s : CoreCells) (c d : ℕ) where
   abbrev size : ℕ → ℕ
-  size c = length (members (geometry s.frames) (cell_at (geometry s.frames) c))
+  size c = length (members (geometry s.grid.frames) (cell_at (geometry s.grid.frames) c))
 
-  module _ {xs : List ℕ} (ex : xs ≡ members (geometry s.frames) (cell_at (geometry s.frames) c)) where
-    pub first_few : length xs ≤ 64 → false ≡ apart_by_spans s.frames.v s.frames.n s.frames.points.now c d
+  module _ {xs : List ℕ} (ex : xs ≡ members (geometry s.grid.frames) (cell_at (geometry s.grid.frames) c)) where
+    pub first_few : length xs ≤ 64 → false ≡ apart_by_spans s.grid.frames.v s.grid.frames.n s.grid.frames.points.now c d
     unfolding apart_by_spans
     first_few l = rw (le-ltb many (size c) (omega (arith, ap length ex)))
 
-    module _ {ys : List ℕ} (ey : ys ≡ members (geometry s.frames) (cell_at (geometry s.frames) d)) (l : 64 < length xs) where
-      pub second_few : length ys ≤ 64 → false ≡ apart_by_spans s.frames.v s.frames.n s.frames.points.now c d
+    module _ {ys : List ℕ} (ey : ys ≡ members (geometry s.grid.frames) (cell_at (geometry s.grid.frames) d)) (l : 64 < length xs) where
+      pub second_few : length ys ≤ 64 → false ≡ apart_by_spans s.grid.frames.v s.grid.frames.n s.grid.frames.points.now c d
       unfolding apart_by_spans
       second_few m = rw (lt-ltb many (size c) (omega (arith, ap length ex)), le-ltb many (size d) (omega (arith, ap length ey)))
 
-      pub by_spans : 64 < length ys → {one two : Span} → one ≡ cell_span s.frames.v s.frames.n s.frames.points.now c → two ≡ cell_span s.frames.v s.frames.n s.frames.points.now d
-          → {square : ℕ} → square ≡ square_gap one two → {r : Bool} → r ≡ out_of_reach s.frames.v.t s.frames.v.s square → r ≡ apart_by_spans s.frames.v s.frames.n s.frames.points.now c d
+      pub by_spans : 64 < length ys → {one two : Span} → one ≡ cell_span s.grid.frames.v s.grid.frames.n s.grid.frames.points.now c → two ≡ cell_span s.grid.frames.v s.grid.frames.n s.grid.frames.points.now d
+          → {square : ℕ} → square ≡ square_gap one two → {r : Bool} → r ≡ out_of_reach s.grid.frames.v.t s.grid.frames.v.s square → r ≡ apart_by_spans s.grid.frames.v s.grid.frames.n s.grid.frames.points.now c d
       unfolding apart_by_spans
       by_spans m e1 e2 es er =
           rw (lt-ltb many (size c) (omega (arith, ap length ex)), lt-ltb many (size d) (omega (arith, ap length ey)))
-          (er ∙ ap (out_of_reach s.frames.v.t s.frames.v.s) (es ∙ ap₂ square_gap e1 e2))
+          (er ∙ ap (out_of_reach s.grid.frames.v.t s.grid.frames.v.s) (es ∙ ap₂ square_gap e1 e2))
 
-  pub spans_tell : {one two : Span} → one ≡ cell_span s.frames.v s.frames.n s.frames.points.now c → two ≡ cell_span s.frames.v s.frames.n s.frames.points.now d
-      → {square : ℕ} → square ≡ square_gap one two → {r : Bool} → r ≡ out_of_reach s.frames.v.t s.frames.v.s square → r ≡ true → Apart s.frames.v s.frames.n s.frames.points.now c d
-  spans_tell {one} {two} e1 e2 {square} es {r} er o = far_apart s.frames.ready c d (members_counts s c) (members_counts s d) far
+  pub spans_tell : {one two : Span} → one ≡ cell_span s.grid.frames.v s.grid.frames.n s.grid.frames.points.now c → two ≡ cell_span s.grid.frames.v s.grid.frames.n s.grid.frames.points.now d
+      → {square : ℕ} → square ≡ square_gap one two → {r : Bool} → r ≡ out_of_reach s.grid.frames.v.t s.grid.frames.v.s square → r ≡ true → Apart s.grid.frames.v s.grid.frames.n s.grid.frames.points.now c d
+  spans_tell {one} {two} e1 e2 {square} es {r} er o = far_apart s.grid.frames.ready c d (members_counts s c) (members_counts s d) far
     where
-      far : (q x : ℕ) → In q (tree_frames (geometry s.frames) c) → In x (tree_frames (geometry s.frames) d) → out_of_reach s.frames.v.t s.frames.v.s (N s.frames.v (frames_in s.frames.n s.frames.v.channels s.frames.points.now) q x) ≡ true
+      far : (q x : ℕ) → In q (tree_frames (geometry s.grid.frames) c) → In x (tree_frames (geometry s.grid.frames) d) → out_of_reach s.grid.frames.v.t s.grid.frames.v.s (N s.grid.frames.v (frames_in s.grid.frames.n s.grid.frames.v.channels s.grid.frames.points.now) q x) ≡ true
       far q x i j =
-          let a = cell_within s.frames.v s.frames.n s.frames.points.now c q (core_member (geometry s.frames) c q i) in
-          let b = cell_within s.frames.v s.frames.n s.frames.points.now d x (core_member (geometry s.frames) d x j) in
-          let low = tree_low s.frames.ready in
-          let l : square ≤ N s.frames.v (frames_in s.frames.n s.frames.v.channels s.frames.points.now) q x = omega (arith, es ∙ ap₂ square_gap e1 e2, square_gap_le s.frames.ready (low c q i) (low d x j) a b) in
-          out_farther s.frames.v.t s.frames.v.s l (sym er ∙ o)
+          let a = cell_within s.grid.frames.v s.grid.frames.n s.grid.frames.points.now c q (core_member (geometry s.grid.frames) c q i) in
+          let b = cell_within s.grid.frames.v s.grid.frames.n s.grid.frames.points.now d x (core_member (geometry s.grid.frames) d x j) in
+          let low = tree_low s.grid.frames.ready in
+          let l : square ≤ N s.grid.frames.v (frames_in s.grid.frames.n s.grid.frames.v.channels s.grid.frames.points.now) q x = omega (arith, es ∙ ap₂ square_gap e1 e2, square_gap_le s.grid.frames.ready (low c q i) (low d x j) a b) in
+          out_farther s.grid.frames.v.t s.grid.frames.v.s l (sym er ∙ o)

@@ -8,13 +8,13 @@ use mathlib.Core.List.{List, [], ◌∷◌, ◌++◌, append-nil, append_assoc}
 use Prim.Native.Nat.{ℕ, zero, suc, ◌+◌, ◌*◌, ◌<◌, ◌≤◌, zero-le}
 use borrow.Author.Tests.{lt-ltb, le-ltb, ltb-true}
 use Rattle.std.proofs.Math.Dec.{ltb→lt, nltb→le}
-use Rattle.std.proofs.Math.ListN.{length, length-append}
+use Rattle.std.proofs.Math.ListN.{length, length-append, take-append-drop}
 use Rattle.lists.specs.Lists.{keep, Below, nonzero}
 use Rattle.lists.specs.Words.{over, part, column}
 use Rattle.lists.specs.ListLaws.{true_T, nonzero_true, T_or_not, keep_same, length_numbers}
 use Rattle.lists.specs.CountLaws.{keep_le}
 use Rattle.lists.proofs.WordLaws.{over_length}
-use Rattle.lists.proofs.PartLaws.{part_part, part_under, part_above, part_same, holds_at}
+use Rattle.lists.proofs.PartLaws.{part_under, part_above, part_same, holds_at}
 use Rattle.hyperparams.specs.Params.{max_frames}
 use Rattle.counting_tree.specs.declared.IntersectionType.{IntersectionType}
 use Rattle.counting_tree.specs.declared.IntersectionType.TheVariants.{Disjoint, FullyCovered, Intersecting}
@@ -28,7 +28,9 @@ use Rattle.cells_grid.specs.Places.{end_in}
 use Rattle.cells_grid.proofs.ArrangementLaws.{start_next, start_le, cells_le, cell_places, core_word, cored_over}
 use Rattle.tree_structure.specs.Encode.{size, encode, TreeAt, encode_length, size_le}
 use Rattle.tree_structure.specs.Work.{max_levels, max_nodes}
+use Rattle.tree_structure.proofs.Levels.{size_pos}
 use Rattle.core_cells.specs.Forest.{core_among, path_limit, tree_frames, is_core, is_large, tree_size, tree_words, nodes_to, forest_to, tree_word, Grown}
+use Rattle.core_cells.specs.HasTrees.{Holds}
 
 -- a run never takes a number below 64
 pub limit_least : (levels n k : ℕ) → 64 ≤ path_limit levels n k
@@ -207,40 +209,47 @@ module _ (g : Geometry) where
     nodes_most L most low c h = le_trans (nodes_fit L c h) (mul-le-mul {n₂ = max_frames} {m₂ = max_levels + 1} most (omega arith))
 
 -- ---- what words that hold them say
-module _ {g : Geometry} {k : ℕ} {w : List ℕ} (gr : Grown g k w) {n : ℕ} (e : g.frames ≡ n) where
-  words : part w (5 * n) k ≡ column (tree_word g gr.few) k
-  words = ap (λ (x : ℕ). part w (5 * x) k) (sym e) ∙ gr.trees
+module _ {g : Geometry} {k few : ℕ} {w u : List ℕ} (H : Holds g k w u few) {n : ℕ} (e : g.frames ≡ n) where
+  words : part w (5 * n) k ≡ column (tree_word g few) k
+  words = ap (λ (x : ℕ). part w (5 * x) k) (sym e) ∙ H.trees
 
   pub word_room : (c : ℕ) → c < k → 5 * n + c < length w
-  word_room c h = omega (arith, ap length words, length-take k (drop (5 * n) w), length-drop (5 * n) w, length_numbers (tree_word g gr.few) k)
+  word_room c h = omega (arith, ap length words, length-take k (drop (5 * n) w), length-drop (5 * n) w, length_numbers (tree_word g few) k)
 
-  pub word_at : (c : ℕ) → c < k → get_or w (5 * n + c) 0 ≡ tree_word g gr.few c
-  word_at c h = holds_at w (5 * n) k (tree_word g gr.few) c words h
+  pub word_at : (c : ℕ) → c < k → get_or w (5 * n + c) 0 ≡ tree_word g few c
+  word_at c h = holds_at w (5 * n) k (tree_word g few) c words h
 
   pub is_core_cell : (c : ℕ) → c < k → nonzero (get_or w (5 * n + c) 0) ≡ core_cell g (cell_at g c)
-  is_core_cell c h = ap nonzero (word_at c h) ∙ word_core g gr.few c
+  is_core_cell c h = ap nonzero (word_at c h) ∙ word_core g few c
 
-  words_at : (c : ℕ) → c < k → part w (16 * n + 4 * nodes_to g gr.few c) (length (tree_words g gr.few c)) ≡ tree_words g gr.few c
-  words_at c h =
-      let A = forest_to g gr.few k in
-      let F = forest_to g gr.few c in
-      let W = tree_words g gr.few c in
-      let z = forest_split g gr.few c k h in
-      let R = z.0 in
-      let l : length F + (length W + length R) ≡ length A = sym (ap length z.1 ∙ simp length-append) in
-      ap (λ (a : ℕ). part w (16 * n + a) (length W)) (sym (forest_length g gr.few c))
-      ∙ sym (part_part w (16 * n) (length A) (length F) (length W) (omega arith))
-      ∙ ap (λ (l : List ℕ). part l (length F) (length W)) (ap (λ (x : ℕ). part w (16 * x) (length A)) (sym e) ∙ gr.forest ∙ z.1)
-      ∙ ap (take (length W)) (drop_at F (W ++ R) (length F) refl)
-      ∙ take_at W R (length W) refl
+  -- the nodes from those of c's tree on
+  nodes_at : (c : ℕ) → c < k → (R : List ℕ) × (drop (4 * nodes_to g few c) u ≡ tree_words g few c ++ R)
+  nodes_at c h =
+      let A = forest_to g few k in
+      let F = forest_to g few c in
+      let W = tree_words g few c in
+      let z = forest_split g few c k h in
+      let V = drop (length A) u in
+      let p : u ≡ F ++ ((W ++ z.0) ++ V) = sym (take-append-drop (length A) u) ∙ ap (λ (l : List ℕ). l ++ V) (H.forest ∙ z.1) ∙ append_assoc F (W ++ z.0) V in
+      (z.0 ++ V, ap (drop (4 * nodes_to g few c)) p ∙ drop_at F ((W ++ z.0) ++ V) (4 * nodes_to g few c) (forest_length g few c) ∙ append_assoc W z.0 V)
 
-  pub tree_at : (c : ℕ) → c < k → gr.few < length (tree_frames g c) → (at : ℕ) → at ≡ 16 * n + 4 * nodes_to g gr.few c
-      → TreeAt g.same n w at g.levels 0 (tree_frames g c)
-  tree_at c h l at p = record {
-    node = record { some = omega arith; below = subst (λ (x : ℕ). Below x (tree_frames g c)) e (frames_below g c) };
-    words = rw (p, ← tree_words_lem g gr.few c l) (words_at c h);
-  }
+  module _ (c : ℕ) (h : c < k) (l : few < length (tree_frames g c)) where
+    pub tree_inside : 4 * nodes_to g few c ≤ length u
+    tree_inside =
+        let z = nodes_at c h in
+        let m = length-append (tree_words g few c) z.0 in
+        omega (arith, length-drop (4 * nodes_to g few c) u, ap length z.1, m, tree_length g few c, tree_size_lem g few c l, size_pos g.same g.levels 0 (tree_frames g c))
 
+    pub tree_at : TreeAt g.same n (drop (4 * nodes_to g few c) u) 0 g.levels 0 (tree_frames g c)
+    tree_at =
+        let z = nodes_at c h in
+        record {
+          node = record { some = omega arith; below = subst (λ (x : ℕ). Below x (tree_frames g c)) e (frames_below g c) };
+          words = rw (← tree_words_lem g few c l) (ap (take (length (tree_words g few c))) z.1 ∙ take_at (tree_words g few c) z.0 (length (tree_words g few c)) refl);
+        }
+
+-- words that hold both, in one list
+module _ {g : Geometry} {k : ℕ} {w : List ℕ} (gr : Grown g k w) {n : ℕ} (e : g.frames ≡ n) where
   -- words laid from 6n up to 16n keep it
   pub grown_over : (b : ℕ) (ws : List ℕ) → 6 * n ≤ b → b + length ws ≤ 16 * n → b ≤ length w → Grown g k (over w b ws)
   grown_over b ws h l f = record {

@@ -1,10 +1,11 @@
 -- Laws of the least number found: below `enough` it is that of an element, else no element's is lower; and of the far reach.
 use Rattle.std.specs.Prelude.{◌≡◌, Bool, true, false, cond, List, [], ◌∷◌, ℕ, ◌+◌, ◌*◌, ◌^◌, ◌<◌, ◌≤◌, ltb, min}
 use Rattle.std.proofs.Math.Path.{refl}
-use Rattle.std.proofs.Common.{ap, ◌∙◌, ltb-true, ltb-false, inl, inr, arith, mul-le-mul_right, lt-ltb, le-ltb, leb-true, le-leb, ltb→lt, nltb→le}
+use Rattle.std.proofs.Common.{ap, ◌∙◌, ltb-true, ltb-false, inl, inr, arith, mul-le-mul, mul-le-mul_right, pow_pos, lt-ltb, le-ltb, leb-true, le-leb, ltb→lt, nltb→le}
 use Rattle.lists.specs.Lists.{In}
 use Rattle.lists.specs.ListLaws.{T_or_not}
-use Rattle.core_cells.specs.Nearest.{least_until, out_of_reach}
+use Rattle.counting_tree.specs.Sound.{four_power}
+use Rattle.core_cells.specs.Nearest.{beyond, least_until, out_of_reach}
 
 -- ---- the least number found
 module _ (enough : ℕ) (f : ℕ → ℕ) where
@@ -59,3 +60,12 @@ unfolding out_of_reach
 out_farther t s {a} {b} l o =
     let r = t * (2 ^ s + 1) * (t * (2 ^ s + 1)) + 4 ^ s in
     le-leb r (b * 4 ^ s) (omega (arith, leb-true r (a * 4 ^ s) o, mul-le-mul_right (4 ^ s) l))
+
+-- as is a number beyond any sum
+pub beyond_out : (t s : ℕ) → t ≤ 65535 → out_of_reach t s beyond ≡ true
+unfolding out_of_reach
+beyond_out t s h =
+    let a = 2 ^ s in
+    let p : 0 < a = pow_pos s in
+    let r : t * (a + 1) ≤ 131070 * a = omega (arith, mul-le-mul {n₁ = t} {m₁ = a + 1} {n₂ = 65535} {m₂ = 2 * a} h (omega arith)) in
+    rw (four_power s) (le-leb (t * (a + 1) * (t * (a + 1)) + a * a) (beyond * (a * a)) (omega (arith, mul-le-mul {n₂ = 131070 * a} {m₂ = 131070 * a} r r, mul-le-mul {n₁ = 1} {m₁ = 1} {n₂ = a} {m₂ = a} p p)))

@@ -21,7 +21,7 @@ const COPY: usize = 11;
 
 const SCRATCH: usize = 12;
 
-pub(crate) const NODES: usize = 16;
+pub const NODES: usize = 16;
 
 // A cell with at most so many core frames has no tree in a run: its frames' own paths are taken.
 pub const PATHS: usize = 64;
@@ -77,13 +77,14 @@ fn build_tree(
         work[slot] = 1;
         return at;
     }
-    let hi = lo + m;
-    let copy = COPY * n;
-    let scratch = SCRATCH * n;
-    let next = tree_structure::build_structure(frames, work, lo, hi, copy, scratch, at);
+    let (front, rest) = work.split_at_mut(COPY * n);
+    let (copy, rest) = rest.split_at_mut(n);
+    let (scratch, nodes) = rest.split_at_mut(at - SCRATCH * n);
+    let members = &front[lo..lo + m];
+    let size = tree_structure::build_structure(frames, members, copy, scratch, nodes);
     lists::clear_words(work, lo, m);
     work[slot] = (2 + (at - NODES * n) / 4) as Word;
-    next
+    at + 4 * size
 }
 
 // With more core frames than this a cell has a tree in a run, of k cells. None has where s is 0, since root boxes settle nearly everything then,

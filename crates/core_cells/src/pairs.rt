@@ -13,31 +13,23 @@ impl CoreCells<'_> {
     // What the core frames of the cells c and d tell by whole numbers, without trees: that one of c has a count in the tree of d,
     // or that none of the one has a count in the tree of the other.
     pub fn settled_by_cells(&self, c: usize, d: usize) -> Option<bool>
-        requires { (c < self.now.k) × (d < self.now.k) }
-        ensures value { let f = self.now.frames in result ≡ settled_by_cells f.v f.n f.points.now c d }
-        ensures touches { result ≡ Some true → (let g = geometry self.now.frames in (q : ℕ) × In q (tree_frames g c) × (nonzero (count g q (cell_at g d)) ≡ true)) }
-        ensures apart { let f = self.now.frames in result ≡ Some false → Apart f.v f.n f.points.now c d }
+        requires { (c < self.now.grid.k) × (d < self.now.grid.k) }
+        ensures value { let f = self.now.grid.frames in result ≡ settled_by_cells f.v f.n f.points.now c d }
+        ensures touches { result ≡ Some true → (let g = geometry self.now.grid.frames in (q : ℕ) × In q (tree_frames g c) × (nonzero (count g q (cell_at g d)) ≡ true)) }
+        ensures apart { let f = self.now.grid.frames in result ≡ Some false → Apart f.v f.n f.points.now c d }
     {
-        let mut unsettled = false;
-        for i in self.frames_of(c) {
+        let mut told = Some(false);
+        for i in self.grid.frames_of(c) {
             let i = *i as usize;
             if !self.is_core(i) {
                 continue;
             }
             match self.settled_by_frames(i, d) {
-                Some(told) => {
-                    if told {
-                        return Some(true);
-                    }
-                }
-                None => {
-                    unsettled = true;
-                }
+                Some(true) => return Some(true),
+                Some(false) => {}
+                None => told = None,
             }
         }
-        if unsettled {
-            return None;
-        }
-        Some(false)
+        told
     }
 }

@@ -48,21 +48,9 @@ impl Span {
         ensures low { result.low ≡ lowest self.low counts }
         ensures high { result.high ≡ highest self.high counts }
     {
-        let low = self.low;
-        let high = self.high;
         Span {
-            low: [
-                low[0].min(counts[0]),
-                low[1].min(counts[1]),
-                low[2].min(counts[2]),
-                low[3].min(counts[3]),
-            ],
-            high: [
-                high[0].max(counts[0]),
-                high[1].max(counts[1]),
-                high[2].max(counts[2]),
-                high[3].max(counts[3]),
-            ],
+            low: std::array::from_fn(|i| self.low[i].min(counts[i])),
+            high: std::array::from_fn(|i| self.high[i].max(counts[i])),
         }
     }
 
@@ -72,47 +60,47 @@ impl Span {
         ensures value { result ≡ square_gap self other }
         ensures bound { result ≤ 2 ^ 34 }
     {
-        let low = self.low;
-        let high = self.high;
-        let low2 = other.low;
-        let high2 = other.high;
-        let one = gap(low[0], high[0], low2[0], high2[0]);
-        let two = gap(low[1], high[1], low2[1], high2[1]);
-        let three = gap(low[2], high[2], low2[2], high2[2]);
-        let four = gap(low[3], high[3], low2[3], high2[3]);
-        one + two + three + four
+        let mut square = 0;
+        for i in 0..4 {
+            square += gap(self.low[i], self.high[i], other.low[i], other.high[i]);
+        }
+        square
     }
 }
 
 impl CoreCells<'_> {
     // The span of cell c.
     fn span_of(&self, c: usize) -> Span
-        requires { c < self.now.k }
-        ensures value { let f = self.now.frames in result ≡ cell_span f.v f.n f.points.now c }
+        requires { c < self.now.grid.k }
+        ensures value { let f = self.now.grid.frames in result ≡ cell_span f.v f.n f.points.now c }
         ensures bound { LowEnds result }
     {
-        let first = raised_at(&self.frames, self.first_of(c));
+        let first = raised_at(&self.grid.frames, self.grid.first_of(c));
         let mut span = Span {
             low: first,
             high: first,
         };
-        for x in self.frames_of(c) {
-            span = span.with(raised_at(&self.frames, *x as usize));
+        for x in self.grid.frames_of(c) {
+            span = span.with(raised_at(&self.grid.frames, *x as usize));
         }
         span
     }
 
     // Whether c and d are cells of many frames whose spans lie out of reach: then no core frame of the one has a count in the tree of the other.
     pub fn apart(&self, c: usize, d: usize) -> bool
-        requires { (c < self.now.k) × (d < self.now.k) }
-        ensures value { let f = self.now.frames in result ≡ apart_by_spans f.v f.n f.points.now c d }
-        ensures tells { let f = self.now.frames in result ≡ true → Apart f.v f.n f.points.now c d }
+        requires { (c < self.now.grid.k) × (d < self.now.grid.k) }
+        ensures value { let f = self.now.grid.frames in result ≡ apart_by_spans f.v f.n f.points.now c d }
+        ensures tells { let f = self.now.grid.frames in result ≡ true → Apart f.v f.n f.points.now c d }
     {
-        if self.frames_of(c).len() <= MANY || self.frames_of(d).len() <= MANY {
+        if self.grid.frames_of(c).len() <= MANY || self.grid.frames_of(d).len() <= MANY {
             return false;
         }
         let one = self.span_of(c);
         let two = self.span_of(d);
-        out_of_reach(self.frames.v.t, self.frames.v.s, one.square_gap(two))
+        out_of_reach(
+            self.grid.frames.v.t,
+            self.grid.frames.v.s,
+            one.square_gap(two),
+        )
     }
 }

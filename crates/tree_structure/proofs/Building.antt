@@ -5,7 +5,7 @@ use mathlib.Core.List.{List, [], ◌∷◌, ◌++◌}
 use Prim.Native.Nat.{ℕ, ◌+◌, ◌-◌, ◌*◌, ◌<◌, ◌≤◌}
 use native.Mathlib.Omega.{arith}
 use borrow.Rule.Slice.PartMut.{put_mid}
-use lib.ListN.{length, drop, get_or, length-append}
+use lib.ListN.{length, take, drop, get_or, length-append, length-take}
 use Rattle.std.proofs.Common.{drop-drop}
 use Rattle.std.proofs.lemmas.List.{take_rest}
 use Rattle.lists.specs.Lists.{head_or, keep, lose, Below, groups}
@@ -239,3 +239,7 @@ module _ {s : Same} {n k l : ℕ} {xs scratch ws : List ℕ} (r : Room s n k l x
         ap (λ (z : List ℕ). over z 0 H) (built_words b all)
         ∙ over_before ws 0 4 H G refl (omega (arith, trees_length s (k - 1) (l + 1) (groups (s (l + 1)) xs), z.nodes, r.room))
         ∙ ap (over ws 0) u
+
+-- of what is lent to sort in no more is needed
+pub room_cut : {s : Same} {n k l : ℕ} {xs ys ws : List ℕ} → Room s n k l xs ys ws → Room s n k l xs (take (length xs) ys) ws
+room_cut {xs = xs} {ys} r = record { some = r.some; few = r.few; below = r.below; sorting = omega (arith, r.sorting, length-take (length xs) ys); most = r.most; room = r.room }

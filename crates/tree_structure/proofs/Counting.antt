@@ -5,10 +5,10 @@ use mathlib.Core.List.{List, [], ◌∷◌, ◌++◌, map}
 use Prim.Native.Nat.{ℕ, zero, suc, ◌+◌, ◌-◌, ◌*◌, ◌<◌, ◌≤◌}
 use native.Mathlib.Omega.{arith}
 use native.Mathlib.Numerals.{add-one}
-use lib.ListN.{length, take, drop, get_or, length-append, length-drop, take-append-drop}
+use lib.ListN.{length, take, drop, get_or, length-append, take-append-drop}
 use Rattle.std.proofs.Common.{append_assoc}
 use Rattle.std.proofs.lemmas.Bool.{true≢false}
-use Rattle.std.proofs.lemmas.List.{take_at, take_rest, drop_at}
+use Rattle.std.proofs.lemmas.List.{take_at, drop_at}
 use Rattle.std.specs.Prelude.{Option, None, Some, true, false, is_some}
 use Rattle.lists.specs.Lists.{head_or, concat, groups}
 use Rattle.lists.specs.Words.{part}
@@ -24,7 +24,6 @@ use Rattle.tree_structure.specs.declared.level.Level.{Level}
 use Rattle.tree_structure.specs.declared.Counted.{Counted}
 use Rattle.tree_structure.specs.Encode.{Same, size, encode, TreeAt, TreesAt, told_of, encode_length}
 use Rattle.tree_structure.proofs.Levels.{group_words, inner, size_pos}
-use Rattle.tree_structure.proofs.Building.{tail}
 
 four_words : (s : Same) (k l : ℕ) (xs : List ℕ) → encode s k l xs ≡ (length xs ∷ size s k l xs ∷ head_or 0 xs ∷ 0 ∷ []) ++ drop 4 (encode s k l xs)
 unfolding encode size
@@ -68,13 +67,6 @@ module _ {s : Same} {n : ℕ} {ws : List ℕ} {k l : ℕ} {xs : List ℕ} (t : T
 
   pub tree_below : get_or ws 2 0 < n
   tree_below = rw tree_first (t.node.below (head_or 0 xs) (head_in 0 (get_or xs 0 0) xs (at_in 0 xs 0 t.node.some)))
-
--- the words from `at` on come first in what is lent from there on
-pub tree_lent : {s : Same} {n : ℕ} {ws : List ℕ} {at k l : ℕ} {xs : List ℕ} → TreeAt s n ws at k l xs → TreeAt s n (tail ws at) 0 k l xs
-tree_lent {s} {n} {ws} {at} {k} {l} {xs} t = record { node = t.node; words = ap (take (length (encode s k l xs))) (take_rest ws at) ∙ t.words }
-
-pub lent_fits : {s : Same} {n : ℕ} {ws : List ℕ} {at k l : ℕ} {xs : List ℕ} → TreeAt s n ws at k l xs → at ≤ length ws
-lent_fits {s} {n} {ws} {at} t = omega (arith, tree_room (tree_lent t), ap length (take_rest ws at), length-drop at ws)
 
 -- how the node's box lies, as read
 module _ (l : Level) (q : ℕ) where

@@ -1,5 +1,4 @@
 pub mod Parting
 pub mod Levels
 pub mod Building
-pub mod Copied
 pub mod Counting

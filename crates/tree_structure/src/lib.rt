@@ -1,13 +1,13 @@
 // The counting tree of a cell in words (TreeStructure of the source): built from a list of frames, and asked for the count of a frame.
 #![tactic(auto)]
 
-ghost use Rattle.std.specs.Prelude.{◌≡◌, List, ◌++◌, ℕ, ◌+◌, ◌-◌, ◌*◌, ◌<◌, ◌≤◌, length, drop, get_or};
+ghost use Rattle.std.specs.Prelude.{◌≡◌, List, ◌++◌, ℕ, ◌+◌, ◌-◌, ◌*◌, ◌<◌, ◌≤◌, length, drop, get_or, replicate};
 ghost use Rattle.lists.specs.Lists.{keep, lose, Below};
-ghost use Rattle.lists.specs.Words.{over, part};
+ghost use Rattle.lists.specs.Words.{over};
 ghost use Rattle.counting_tree.specs.Tree.{counted, first_of};
 ghost use Rattle.counting_tree.specs.Given.{geometry};
 ghost use Rattle.tree_structure.specs.Encode.{size, encode, TreeAt, TreesAt, told_of};
-ghost use Rattle.tree_structure.specs.Work.{Room, CanBuild};
+ghost use Rattle.tree_structure.specs.Work.{Room};
 
 mod level;
 mod node;
@@ -15,7 +15,7 @@ mod node;
 use counting_tree::{Frames, IntersectionType};
 use level::Level;
 use lists::Word;
-use node::Node;
+pub use node::Node;
 
 // The count of a frame in a tree: the number of frames of the node that is counted, and the first of them.
 #[derive(Clone, Copy, PartialEq, Eq)]
@@ -42,7 +42,7 @@ fn partition(level: &Level, members: &mut [Word], scratch: &mut [Word], pivot: u
     let mut lost = 0;
     for i in 0..members.len() {
         let x = members[i];
-        if frames.shares_box(at, place, lists::wide(x)) {
+        if frames.shares_box(at, place, usize::from(x)) {
             members[kept] = x;
             kept += 1;
         } else {
@@ -66,7 +66,7 @@ fn build_node(
     ensures words { let l = level.now in let g = geometry l.frames.now in nodes.new ≡ over nodes.old 0 (encode g.same l.left l.level members.old) }
 {
     let count = members.len();
-    let first = lists::wide(members[0]);
+    let first = usize::from(members[0]);
     if level.left == 0 {
         let leaf = Node {
             count,
@@ -80,7 +80,7 @@ fn build_node(
     let mut size = 1;
     let mut from = 0;
     while from < count {
-        let pivot = lists::wide(members[from]);
+        let pivot = usize::from(members[from]);
         let kept = partition(&below, &mut members[from + 1..], scratch, pivot);
         let to = from + 1 + kept;
         size += build_node(
@@ -96,30 +96,29 @@ fn build_node(
     size
 }
 
-// Writes the tree of the frames `work[lo..hi]` from `at` on, and changes nothing else: it is built on a copy of the frames. Returns the place after it.
+// Writes the tree of the frames `members` over the first words of `nodes`. Returns its number of nodes.
+// It is built on a copy, since its parts are put in another order; as many words of `copy` and `scratch` are 0 after it.
 pub fn build_structure(
     frames: &Frames,
-    work: &mut [Word],
-    lo: usize,
-    hi: usize,
-    copy: usize,
-    scratch: usize,
-    at: usize,
+    members: &[Word],
+    copy: &mut [Word],
+    scratch: &mut [Word],
+    nodes: &mut [Word],
 ) -> usize
-    requires can_build { CanBuild (geometry frames.now).same frames.now.n work.old lo hi copy scratch at (geometry frames.now).levels }
-    ensures result_value { let g = geometry frames.now in result ≡ at + 4 * size g.same g.levels 0 (part work.old lo (hi - lo)) }
-    ensures work_after { let g = geometry frames.now in work.new ≡ over work.old at (encode g.same g.levels 0 (part work.old lo (hi - lo))) }
+    requires room { let g = geometry frames.now in Room g.same frames.now.n g.levels 0 members.now scratch.old nodes.old }
+    requires copied { length members.now ≤ length copy.old }
+    ensures size { let g = geometry frames.now in result ≡ size g.same g.levels 0 members.now }
+    ensures words { let g = geometry frames.now in nodes.new ≡ over nodes.old 0 (encode g.same g.levels 0 members.now) }
+    ensures cleared { (copy.new ≡ over copy.old 0 (replicate (length members.now) 0)) × (scratch.new ≡ over scratch.old 0 (replicate (length members.now) 0)) }
 {
-    let m = hi - lo;
-    lists::copy_words(work, lo, copy, m);
-    let (front, back) = work.split_at_mut(scratch);
-    let (spare, nodes) = back.split_at_mut(at - scratch);
-    let members = &mut front[copy..copy + m];
-    let sorting = &mut spare[..m];
-    let size = build_node(&Level::root(frames), members, sorting, nodes);
-    members.fill(0);
-    sorting.fill(0);
-    at + 4 * size
+    let m = members.len();
+    let sorted = &mut copy[..m];
+    let spare = &mut scratch[..m];
+    sorted.copy_from_slice(members);
+    let size = build_node(&Level::root(frames), sorted, spare, nodes);
+    sorted.fill(0);
+    spare.fill(0);
+    size
 }
 
 // The trees after the first.
@@ -175,16 +174,11 @@ fn count_list(level: &Level, trees: &[Word], q: usize) -> Option<Counted>
     count_list(level, others(trees), q)
 }
 
-// The count of frame `q` in the tree that `build_structure` wrote from `at` on.
-pub fn approximate_range_counting(
-    frames: &Frames,
-    work: &[Word],
-    q: usize,
-    at: usize,
-) -> Option<Counted>
+// The count of frame `q` in the tree whose words come first.
+pub fn approximate_range_counting(frames: &Frames, tree: &[Word], q: usize) -> Option<Counted>
     requires ready { q < frames.now.n }
-    requires tree { (xs : List ℕ) × TreeAt (geometry frames.now).same frames.now.n work.now at (geometry frames.now).levels 0 xs }
-    ensures { let g = geometry frames.now in (xs : List ℕ) → TreeAt g.same frames.now.n work.now at g.levels 0 xs → result ≡ told_of (counted g.same (g.box q) g.levels 0 xs) }
+    requires tree { let g = geometry frames.now in (xs : List ℕ) × TreeAt g.same frames.now.n tree.now 0 g.levels 0 xs }
+    ensures { let g = geometry frames.now in (xs : List ℕ) → TreeAt g.same frames.now.n tree.now 0 g.levels 0 xs → result ≡ told_of (counted g.same (g.box q) g.levels 0 xs) }
 {
-    count_node(&Level::root(frames), &work[at..], q)
+    count_node(&Level::root(frames), tree, q)
 }

@@ -22,9 +22,9 @@ impl Node {
         ensures first { result.first ≡ get_or words.now 2 0 }
     {
         Node {
-            count: lists::wide(words[0]),
-            size: lists::wide(words[1]),
-            first: lists::wide(words[2]),
+            count: usize::from(words[0]),
+            size: usize::from(words[1]),
+            first: usize::from(words[2]),
         }
     }
 

@@ -1,23 +1,30 @@
-use mathlib.Core.Path.{refl, ◌∙◌}
+use mathlib.Core.Path.{◌≡◌, ap, ◌∙◌}
+use mathlib.Core.List.{List}
+use Prim.Native.Nat.{ℕ, ◌<◌}
 use native.Mathlib.Omega.{arith}
-use Rattle.lists.proofs.LoopLaws.{fill_step}
-use Rattle.cells_grid.proofs.Core.{core_word, bits_start, bits_arranged, pairs_laid, pairs_length, pairs_word, pairs_end}
+use lib.ListN.{length, get_or}
+use Rattle.lists.specs.ListLaws.{at_numbers, length_numbers}
+use Rattle.lists.proofs.LoopLaws.{fill_start, fill_step}
+use Rattle.cells_grid.specs.Pairs.{others}
+use Rattle.cells_grid.proofs.Core.{core_word, bits_end, yet_to_tell}
 use Rattle.cells_grid.proofs.label_by_pairs.Goals as goal
 
-pub count_pairs-requires : goal.count_pairs-requires
-count_pairs-requires c = (c.requires.0, c.requires.2)
-
 pub loop-i-init : goal.loop-i-init
-loop-i-init c = bits_start (pairs_laid c.requires.0 c.requires.2 c.count_pairs.ensures)
+loop-i-init c = let f = c.args.sorted.now.grid.frames in fill_start (omega (arith, ap length c.count_pairs.ensures, length_numbers (others f.v f.n f.points.now) f.n))
 
 pub core_counted-requires : goal.core_counted-requires
-core_counted-requires c = record { ready = (bits_arranged (pairs_laid c.requires.0 c.requires.2 c.count_pairs.ensures) c.loop-i.invariant c.requires.1, c.loop-i-test.true); counts = (omega (arith, pairs_length c.requires.0 c.requires.2 c.count_pairs.ensures c.loop-i.invariant, c.requires.0.fit), pairs_word c.requires.0 c.requires.2 c.count_pairs.ensures c.loop-i.invariant c.loop-i-test.true) }
+core_counted-requires c =
+    let f = c.args.sorted.now.grid.frames in let i = c.loop-i.i in
+    let l : i < f.n = omega (arith, c.loop-i-test.true, ap length c.count_pairs.ensures, length_numbers (others f.v f.n f.points.now) f.n) in
+    (l, yet_to_tell c.loop-i.invariant ∙ ap (λ (z : List ℕ). get_or z i 0) c.count_pairs.ensures ∙ at_numbers (others f.v f.n f.points.now) 0 f.n i l)
 
 pub loop-i-preserved : goal.loop-i-preserved
-loop-i-preserved c = fill_step c.loop-i.invariant c.loop-i-test.true _ _ refl (core_word _ _ c.core_counted.ensures)
-
-pub shape_of-work : goal.shape_of-work
-shape_of-work c = c.clear_words.auto.work ∙ pairs_length c.requires.0 c.requires.2 c.count_pairs.ensures c.loop-i.invariant
+loop-i-preserved c =
+    let f = c.args.sorted.now.grid.frames in
+    fill_step c.loop-i.invariant (omega (arith, c.loop-i-test.true, ap length c.count_pairs.ensures, length_numbers (others f.v f.n f.points.now) f.n)) _ _ (omega arith) (core_word _ _ c.core_counted.ensures)
 
 pub returns : goal.returns
-returns c = c.clear_words.ensures ∙ pairs_end c.requires.0 c.requires.2 c.count_pairs.ensures c.loop-i.invariant (omega (arith, c.loop-i-test.false))
+returns c =
+    let f = c.args.sorted.now.grid.frames in
+    let e : length c.count_pairs.new.counts ≡ f.n = ap length c.count_pairs.ensures ∙ length_numbers (others f.v f.n f.points.now) f.n in
+    bits_end e c.loop-i.invariant (omega (arith, c.loop-i-test.false, e))

@@ -25,7 +25,7 @@ pub shares_box-requires-clause-ready : goal.shares_box-requires-clause-ready
 shares_box-requires-clause-ready c =
     let l = c.args.level.now in
     let b = centre_is l.frames.now.ready c.args.pivot c.requires.ready.0 c.frame_at-counts.result c.frame_at-counts.ensures l.side c.box_of-place.result c.box_of-place.ensures in
-    (omega (arith, c.wide.ensures, spread_below c.loop-i.invariant c.loop-i-test.true c.requires.ready.1), subst Side (sym b.0) (ready_side l.frames.now.ready l.level l.side l.side_is (omega (arith, l.bound))))
+    (omega (arith, c.from.ensures, spread_below c.loop-i.invariant c.loop-i-test.true c.requires.ready.1), subst Side (sym b.0) (ready_side l.frames.now.ready l.level l.side l.side_is (omega (arith, l.bound))))
 
 pub shares_box-requires-clause-centre_value : goal.shares_box-requires-clause-centre_value
 shares_box-requires-clause-centre_value c =
@@ -47,10 +47,10 @@ bounds-scratch-lost c = omega (arith, spread_sum c.loop-i.invariant, spread_leng
 pub loop-i-preserved : goal.loop-i-preserved
 loop-i-preserved c =
     let l = c.args.level.now in
-    let e = box_same l.frames.now.ready c.args.pivot c.requires.ready.0 c.frame_at-counts.result c.frame_at-counts.ensures l.level l.side l.side_is c.box_of-place.result c.box_of-place.ensures c.indexes_at-at.result c.indexes_at-at.ensures c.wide.result c.shares_box.result c.shares_box.ensures in
+    let e = box_same l.frames.now.ready c.args.pivot c.requires.ready.0 c.frame_at-counts.result c.frame_at-counts.ensures l.level l.side l.side_is c.box_of-place.result c.box_of-place.ensures c.indexes_at-at.result c.indexes_at-at.ensures c.from.result c.shares_box.result c.shares_box.ensures in
     elim c.if-shares_box.branch [
-      | then-shares_box w ↦ rw (w.members-is, w.scratch-is, w.kept-is, w.lost-is) (spread_keep c.loop-i.invariant c.loop-i-test.true c.wide.ensures e w.if-shares_box.true)
-      | else-shares_box w ↦ rw (w.members-is, w.scratch-is, w.kept-is, w.lost-is) (spread_lose c.loop-i.invariant c.loop-i-test.true c.wide.ensures e w.if-shares_box.false)
+      | then-shares_box w ↦ rw (w.members-is, w.scratch-is, w.kept-is, w.lost-is) (spread_keep c.loop-i.invariant c.loop-i-test.true c.from.ensures e w.if-shares_box.true)
+      | else-shares_box w ↦ rw (w.members-is, w.scratch-is, w.kept-is, w.lost-is) (spread_lose c.loop-i.invariant c.loop-i-test.true c.from.ensures e w.if-shares_box.false)
     ]
 
 pub copy_from_slice-requires : goal.copy_from_slice-requires

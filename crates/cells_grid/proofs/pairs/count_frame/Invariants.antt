@@ -3,4 +3,4 @@ use Rattle.cells_grid.proofs.PairLoops.{InFrame}
 use Rattle.cells_grid.proofs.pairs.count_frame.Given as goal
 
 abbrev pub invariant-loop-m : goal.invariant-loop-m
-invariant-loop-m l = let a = l.search.around in let f = a.frames.now in InFrame f.v f.n f.points.now a.i l.initial.work l.work l.m l.low l.sum
+invariant-loop-m l = let a = l.search.around in let f = a.frames.now in InFrame f.v f.n f.points.now a.i l.initial.counts l.counts l.m l.low l.sum

@@ -4,4 +4,4 @@ use Rattle.cells_grid.proofs.SharedBuckets.{Shared}
 use Rattle.cells_grid.proofs.pairs.sparse.Given as goal
 
 abbrev pub invariant-loop-b : goal.invariant-loop-b
-invariant-loop-b l = Shared l.work (16 * l.n) l.n l.sum l.b
+invariant-loop-b l = Shared l.sorted (2 * l.n) l.n l.sum l.b

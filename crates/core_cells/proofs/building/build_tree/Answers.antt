@@ -3,7 +3,7 @@ use mathlib.Core.Path.{ap, ◌∙◌}
 use native.Mathlib.Omega.{arith}
 use lib.ListN.{length, length-set}
 use Rattle.core_cells.proofs.OneTree.{ripe, cells_few, can_gather, gathered, gathered_length, emptied, small_next, none_work, small_work}
-use Rattle.core_cells.proofs.OneTree.{can_build, word_low, some_next, built_length, cleared_length, some_work}
+use Rattle.core_cells.proofs.OneTree.{fits, above, frames_laid, can_build, built, tree_room, word_low, some_next, cleared_length, some_work}
 use Rattle.core_cells.proofs.building.build_tree.Goals as goal
 
 pub overflow_add-n : goal.overflow_add-n
@@ -71,20 +71,20 @@ returns-then-m-few c =
     let g = gathered (ripe c.args.frames.now.ready c.requires.ready c.requires.s_in_bounds) c.requires.c_lt_k.0 c.requires.c_lt_k.1 c.word-from.ensures c.cell_end-to.ensures c.gather_core-m.ensures.value c.gather_core-m.ensures.work_after in
     record { value = small_next g c.if-m-few.true; work_after = small_work g c.if-m-few.true c.if-m-eq0.false c.clear_words.ensures }
 
-pub overflow_add-hi : goal.overflow_add-hi
-overflow_add-hi c =
+pub split_at_mut-scratch-requires : goal.split_at_mut-scratch-requires
+split_at_mut-scratch-requires c =
     let g = gathered (ripe c.args.frames.now.ready c.requires.ready c.requires.s_in_bounds) c.requires.c_lt_k.0 c.requires.c_lt_k.1 c.word-from.ensures c.cell_end-to.ensures c.gather_core-m.ensures.value c.gather_core-m.ensures.work_after in
-    omega (arith, g.ripe.few, g.most)
+    omega (arith, c.split_at_mut-copy.ensures.back_len, c.split_at_mut-front.ensures.back_len, gathered_length g, fits g c.if-m-few.false, above g c.if-m-few.false)
 
-pub build_structure-next-requires : goal.build_structure-next-requires
-build_structure-next-requires c =
+pub slice_bounds-members-end : goal.slice_bounds-members-end
+slice_bounds-members-end c =
     let g = gathered (ripe c.args.frames.now.ready c.requires.ready c.requires.s_in_bounds) c.requires.c_lt_k.0 c.requires.c_lt_k.1 c.word-from.ensures c.cell_end-to.ensures c.gather_core-m.ensures.value c.gather_core-m.ensures.work_after in
-    record { can_build = can_build g c.if-m-few.false }
+    omega (arith, c.split_at_mut-front.ensures.front_len, g.most)
 
-pub clear_words-requires-2 : goal.clear_words-requires-2
-clear_words-requires-2 c =
+pub build_structure-size-requires-clause-room : goal.build_structure-size-requires-clause-room
+build_structure-size-requires-clause-room c =
     let g = gathered (ripe c.args.frames.now.ready c.requires.ready c.requires.s_in_bounds) c.requires.c_lt_k.0 c.requires.c_lt_k.1 c.word-from.ensures c.cell_end-to.ensures c.gather_core-m.ensures.value c.gather_core-m.ensures.work_after in
-    omega (arith, g.ripe.room, g.most, built_length g c.if-m-few.false c.build_structure-next.ensures.result_value c.build_structure-next.ensures.work_after)
+    can_build g c.if-m-few.false c.split_at_mut-front.ensures.front c.split_at_mut-front.ensures.back c.split_at_mut-copy.ensures.front c.split_at_mut-copy.ensures.back c.split_at_mut-scratch.ensures.front c.split_at_mut-scratch.ensures.back
 
 pub overflow_cast-work : goal.overflow_cast-work
 overflow_cast-work c =
@@ -99,14 +99,24 @@ offset_bounds-work-slot-2 c =
 pub bounds-work-slot-2 : goal.bounds-work-slot-2
 bounds-work-slot-2 c =
     let g = gathered (ripe c.args.frames.now.ready c.requires.ready c.requires.s_in_bounds) c.requires.c_lt_k.0 c.requires.c_lt_k.1 c.word-from.ensures c.cell_end-to.ensures c.gather_core-m.ensures.value c.gather_core-m.ensures.work_after in
-    omega (arith, cells_few g.ripe, g.ripe.room, g.inside, cleared_length g c.if-m-few.false c.build_structure-next.ensures.result_value c.build_structure-next.ensures.work_after c.clear_words-2.ensures)
+    let b = built g c.if-m-few.false c.split_at_mut-front.ensures.front c.split_at_mut-front.ensures.back c.split_at_mut-copy.ensures.front c.split_at_mut-copy.ensures.back c.split_at_mut-scratch.ensures.front c.split_at_mut-scratch.ensures.back c.build_structure-size.ensures.cleared.0 c.build_structure-size.ensures.cleared.1 c.build_structure-size.ensures.words in
+    omega (arith, cells_few g.ripe, g.ripe.room, g.inside, cleared_length g c.if-m-few.false b c.clear_words-2.ensures)
 
-pub shape_of-work : goal.shape_of-work
-shape_of-work c =
+pub overflow_mul-result : goal.overflow_mul-result
+overflow_mul-result c =
     let g = gathered (ripe c.args.frames.now.ready c.requires.ready c.requires.s_in_bounds) c.requires.c_lt_k.0 c.requires.c_lt_k.1 c.word-from.ensures c.cell_end-to.ensures c.gather_core-m.ensures.value c.gather_core-m.ensures.work_after in
-    simp length-set (cleared_length g c.if-m-few.false c.build_structure-next.ensures.result_value c.build_structure-next.ensures.work_after c.clear_words-2.ensures)
+    let l = frames_laid g c.if-m-few.false c.split_at_mut-front.ensures.front c.split_at_mut-front.ensures.back c.split_at_mut-copy.ensures.front c.split_at_mut-copy.ensures.back c.split_at_mut-scratch.ensures.front c.split_at_mut-scratch.ensures.back in
+    omega (arith, tree_room g c.if-m-few.false l c.build_structure-size.ensures.size)
+
+pub overflow_add-result : goal.overflow_add-result
+overflow_add-result c =
+    let g = gathered (ripe c.args.frames.now.ready c.requires.ready c.requires.s_in_bounds) c.requires.c_lt_k.0 c.requires.c_lt_k.1 c.word-from.ensures c.cell_end-to.ensures c.gather_core-m.ensures.value c.gather_core-m.ensures.work_after in
+    let l = frames_laid g c.if-m-few.false c.split_at_mut-front.ensures.front c.split_at_mut-front.ensures.back c.split_at_mut-copy.ensures.front c.split_at_mut-copy.ensures.back c.split_at_mut-scratch.ensures.front c.split_at_mut-scratch.ensures.back in
+    omega (arith, tree_room g c.if-m-few.false l c.build_structure-size.ensures.size)
 
 pub returns : goal.returns
 returns c =
     let g = gathered (ripe c.args.frames.now.ready c.requires.ready c.requires.s_in_bounds) c.requires.c_lt_k.0 c.requires.c_lt_k.1 c.word-from.ensures c.cell_end-to.ensures c.gather_core-m.ensures.value c.gather_core-m.ensures.work_after in
-    record { value = some_next g c.if-m-few.false c.build_structure-next.ensures.result_value c.build_structure-next.ensures.work_after; work_after = some_work g c.if-m-few.false c.build_structure-next.ensures.result_value c.build_structure-next.ensures.work_after c.clear_words-2.ensures }
+    let l = frames_laid g c.if-m-few.false c.split_at_mut-front.ensures.front c.split_at_mut-front.ensures.back c.split_at_mut-copy.ensures.front c.split_at_mut-copy.ensures.back c.split_at_mut-scratch.ensures.front c.split_at_mut-scratch.ensures.back in
+    let b = built g c.if-m-few.false c.split_at_mut-front.ensures.front c.split_at_mut-front.ensures.back c.split_at_mut-copy.ensures.front c.split_at_mut-copy.ensures.back c.split_at_mut-scratch.ensures.front c.split_at_mut-scratch.ensures.back c.build_structure-size.ensures.cleared.0 c.build_structure-size.ensures.cleared.1 c.build_structure-size.ensures.words in
+    record { value = some_next g c.if-m-few.false l c.build_structure-size.ensures.size; work_after = some_work g c.if-m-few.false b c.clear_words-2.ensures }

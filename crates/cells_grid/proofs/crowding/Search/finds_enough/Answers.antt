@@ -14,7 +14,7 @@ turned-requires c = (omega (arith, c.own_row-start.ensures.upper_bound, c.row_co
 pub count_row-count-requires : goal.count_row-count-requires
 count_row-count-requires c =
     let f = c.args.self.now.around.frames.now in
-    (c.requires, omega (arith, c.turned.ensures.upper_bound, c.row_count-rows.ensures), omega (arith, c.loop-r.invariant.low, at_least f.v f.n f.points.now))
+    (omega (arith, c.turned.ensures.upper_bound, c.row_count-rows.ensures), omega (arith, c.loop-r.invariant.low, at_least f.v f.n f.points.now))
 
 pub returns-then-count-frames : goal.returns-then-count-frames
 returns-then-count-frames c =

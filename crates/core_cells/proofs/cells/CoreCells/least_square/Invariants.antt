@@ -6,4 +6,4 @@ use Rattle.core_cells.proofs.Looking.{Looking}
 use Rattle.core_cells.proofs.cells.CoreCells.least_square.Given as goal
 
 abbrev pub invariant-loop-x : goal.invariant-loop-x
-invariant-loop-x l = Looking (core (geometry l.self.frames)) l.enough (N l.self.frames.v (frame_list l.self.frames) l.q) l.x-items l.least l.x-index
+invariant-loop-x l = Looking (core (geometry l.self.grid.frames)) l.enough (N l.self.grid.frames.v (frame_list l.self.grid.frames) l.q) l.x-items l.least l.x-index

@@ -6,4 +6,4 @@ use Rattle.core_cells.proofs.Looking.{Joining}
 use Rattle.core_cells.proofs.cells.CoreCells.settled_by_cells.Given as goal
 
 abbrev pub invariant-loop-i : goal.invariant-loop-i
-invariant-loop-i l = Joining (core (geometry l.self.frames)) (λ q. settled_by_frames l.self.frames.v l.self.frames.n l.self.frames.points.now q l.d) l.i-items l.unsettled l.i-index
+invariant-loop-i l = Joining (core (geometry l.self.grid.frames)) (λ q. settled_by_frames l.self.grid.frames.v l.self.grid.frames.n l.self.grid.frames.points.now q l.d) l.i-items l.told l.i-index

@@ -1,15 +1,22 @@
--- A hit, all out of reach, or neither.
-use mathlib.Core.Path.{refl, sym, ◌∙◌}
-use mathlib.Core.Bool.{true, false}
-use borrow.Author.Tests.{lt-ltb, le-ltb}
-use Rattle.core_cells.proofs.Reaching.{frames_value, hit, out}
+-- No core frame, a hit, all out of reach, or neither.
+use mathlib.Core.Path.{refl}
+use mathlib.Core.Bool.{true}
+use borrow.Author.Tests.{lt-ltb}
+use Rattle.core_cells.proofs.Reaching.{frames_value, frames_rest, frames_none, hit}
 use Rattle.core_cells.proofs.cells.CoreCells.settled_by_frames.Goals as goal
 
-pub returns-then-least-self : goal.returns-then-least-self
-returns-then-least-self c = record { value = frames_value c.args.self.now c.requires.0 c.requires.1 c.least_square-least.ensures.value true _ (lt-ltb _ _ c.if-least-self.true) refl; tells = hit c.args.self.now c.requires.0 c.requires.1 c.least_square-least.ensures.value c.if-least-self.true }
+pub returns-in_default : goal.returns-in_default
+returns-in_default c =
+    let z = frames_none c.args.self.now c.requires.0 c.requires.1 c.in_default.ensures.value refl in
+    record { value = z.0; tells = z.1 }
 
-pub returns-then-out_of_reach : goal.returns-then-out_of_reach
-returns-then-out_of_reach c = record { value = frames_value c.args.self.now c.requires.0 c.requires.1 c.least_square-least.ensures.value false true (le-ltb _ _ c.if-least-self.false) (sym c.out_of_reach.ensures ∙ c.if-out_of_reach.true); tells = out c.args.self.now c.requires.0 c.requires.1 c.least_square-least.ensures.value c.if-least-self.false (sym c.out_of_reach.ensures ∙ c.if-out_of_reach.true) }
+pub returns-then-least-v : goal.returns-then-least-v
+returns-then-least-v c = record {
+  value = frames_value c.args.self.now c.requires.0 c.requires.1 c.in-Some.ensures.value true _ (lt-ltb _ _ c.if-least-v.true) refl;
+  tells = hit c.args.self.now c.requires.0 c.requires.1 c.in-Some.ensures.value c.if-least-v.true;
+}
 
 pub returns : goal.returns
-returns c = record { value = frames_value c.args.self.now c.requires.0 c.requires.1 c.least_square-least.ensures.value false false (le-ltb _ _ c.if-least-self.false) (sym c.out_of_reach.ensures ∙ c.if-out_of_reach.false); tells = tt }
+returns c =
+    let z = frames_rest c.args.self.now c.requires.0 c.requires.1 c.in-Some.ensures.value c.if-least-v.false c.out_of_reach.ensures c.then_some.ensures in
+    record { value = z.0; tells = z.1 }

@@ -1,19 +1,26 @@
-use Rattle.core_cells.proofs.Held.{frame_low}
+use mathlib.Core.Path.{◌∙◌}
+use mathlib.Core.Bool.{◌&&◌}
+use Rattle.std.proofs.Common.{rules}
+use Rattle.std.proofs.lemmas.Iterator.{YieldsList-from_slice}
+use Rattle.std.proofs.lemmas.Iterator.Adapters.{serves_from_places}
+use Rattle.std.proofs.lemmas.Iterator.Search.{any_from_yields_List}
+use Rattle.counting_tree.specs.Given.{geometry}
+use Rattle.counting_tree.specs.Paths as Paths
+use Rattle.cells_grid.specs.Cells.{core}
 use Rattle.core_cells.proofs.Reaching.{box_open, by_paths}
-use Rattle.core_cells.proofs.Looking.{seeking_start, seeking_found, seeking_end}
+use Rattle.core_cells.proofs.Looking.{any_kept}
 use Rattle.core_cells.proofs.cells.CoreCells.some_reaches.Goals as goal
 
-pub loop-x-init : goal.loop-x-init
-loop-x-init c = seeking_start
-
-pub is_core-requires : goal.is_core-requires
-is_core-requires c = frame_low c.args.self.now c.requires.1 c.frames_of-x-items.ensures _ c.loop-x-test.true
-
-pub frame_reaches-requires : goal.frame_reaches-requires
-frame_reaches-requires c = (c.requires.0, frame_low c.args.self.now c.requires.1 c.frames_of-x-items.ensures _ c.loop-x-test.true, box_open c.args.self.now c.requires.0 c.requires.1 c.frames_of-x-items.ensures c.requires.2 _ c.loop-x-test.true)
-
-pub returns-then-frame_reaches : goal.returns-then-frame_reaches
-returns-then-frame_reaches c = by_paths c.args.self.now c.requires.0 c.requires.1 c.frames_of-x-items.ensures (seeking_found c.loop-x.invariant c.loop-x-test.true c.is_core.ensures c.if-is_core.true c.frame_reaches.ensures c.if-frame_reaches.true)
+pub any-requires-clause-callable : goal.any-requires-clause-callable
+any-requires-clause-callable c =
+    serves_from_places (YieldsList-from_slice c.frames_of.result.now cc) (λ x q r. search rules)
+    (λ x k l e _ _ _ _ _ _ _.
+    let z = box_open c.args.self.now c.requires.0 c.requires.1 c.frames_of.ensures c.requires.2 x.now k l e in
+    (c.requires.0, z.0, z.1))
 
 pub returns : goal.returns
-returns c = by_paths c.args.self.now c.requires.0 c.requires.1 c.frames_of-x-items.ensures (seeking_end c.loop-x.invariant c.loop-x-test.false)
+returns c =
+    let g = geometry c.args.self.now.grid.frames in
+    let f = Paths.reaches (g.box c.args.q) g.levels 0 in
+    by_paths c.args.self.now c.requires.0 c.requires.1 c.frames_of.ensures
+    (any_from_yields_List (λ x. core g x && f x) _ _ _ c.any.ensures.ran (YieldsList-from_slice c.frames_of.result.now cc) (λ x b q k. search rules) ∙ any_kept (core g) f c.frames_of.result.now)

@@ -6,4 +6,4 @@ use Rattle.core_cells.proofs.Spanning.{Spanning}
 use Rattle.core_cells.proofs.cells.CoreCells.span_of.Given as goal
 
 abbrev pub invariant-loop-x : goal.invariant-loop-x
-invariant-loop-x l = Spanning (raised_at l.self.frames.v l.self.frames.n l.self.frames.points.now) (cell_at (geometry l.self.frames) l.c) l.x-items l.span l.x-index
+invariant-loop-x l = Spanning (raised_at l.self.grid.frames.v l.self.grid.frames.n l.self.grid.frames.points.now) (cell_at (geometry l.self.grid.frames) l.c) l.x-items l.span l.x-index

@@ -1,6 +1,6 @@
--- The gaps of the four channels.
-use Rattle.core_cells.proofs.Spanning.{gaps_are}
+use native.Mathlib.Omega.{arith}
+use Rattle.core_cells.proofs.Spanning.{adding_end}
 use Rattle.core_cells.proofs.spans.Span.square_gap.Goals as goal
 
 pub returns-clause-value : goal.returns-clause-value
-returns-clause-value c = gaps_are c.args.self c.args.other c.gap-one.ensures.value c.gap-two.ensures.value c.gap-three.ensures.value c.gap-four.ensures.value
+returns-clause-value c = adding_end _ _ c.loop-i.invariant (omega (arith, c.loop-i.auto.i-end, c.loop-i-test.false))

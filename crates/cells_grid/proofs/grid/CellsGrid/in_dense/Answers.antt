@@ -1,0 +1,6 @@
+use mathlib.Core.Path.{◌∙◌}
+use Rattle.cells_grid.proofs.Held.{dense_own}
+use Rattle.cells_grid.proofs.grid.CellsGrid.in_dense.Goals as goal
+
+pub returns : goal.returns
+returns c = c.is_dense.ensures ∙ dense_own c.args.self.now c.requires c.cell_of.ensures.value
