@@ -1,33 +1,29 @@
--- The lowest cell on the list of a frame's own cell in whose tree the frame has a non-zero count, from the words of that list.
+-- The lowest cell on the list of a frame's own cell in whose tree the frame has a non-zero count, from that list.
 use mathlib.Core.Logic.{inl}
 use mathlib.Core.Path.{◌≡◌, refl, sym, ap, ap₂, ◌∙◌, subst}
 use mathlib.Core.Bool.{Bool, true, false}
 use mathlib.Core.List.{List, [], ◌∷◌}
+use Rattle.std.proofs.Common.{take_at}
 use Rattle.std.proofs.lemmas.Bool.{lt-leb}
 use Rattle.std.specs.Prelude.{Option, None, Some, slice_get, unwrap_or, IfSome, MatchOption}
-use Prim.Native.Nat.{ℕ, ◌+◌, ◌*◌, ◌<◌, ◌≤◌}
+use Prim.Native.Nat.{ℕ, ◌+◌, ◌<◌, ◌≤◌}
 use native.Mathlib.Omega.{arith}
 use lib.Dec.{T, leb}
-use lib.IntN.{ℤ}
-use lib.ListN.{length, get_or, replicate}
+use lib.ListN.{length, take, drop, get_or}
 use Rattle.lists.specs.Lists.{numbers, keep, head_or, In, nonzero}
-use Rattle.lists.specs.Words.{over, Clear}
+use Rattle.lists.specs.Words.{over}
 use Rattle.lists.specs.OrderLaws.{below_at}
 use Rattle.lists.specs.ListLaws.{in_keep, in_numbers}
-use Rattle.lists.proofs.WordLaws.{over_length}
-use Rattle.lists.proofs.PartLaws.{get_laid}
-use Rattle.lists.proofs.LoopLaws.{Lowest, lowest_same, lowest_less, lowest_end}
-use Rattle.hyperparams.specs.declared.ValidParams.{ValidParams}
+use Rattle.lists.proofs.LoopLaws.{Lowest, lowest_start, lowest_same, lowest_less, lowest_end}
 use Rattle.counting_tree.specs.Geometry.{Geometry}
-use Rattle.counting_tree.specs.Ready.{geometry_at, Ready}
+use Rattle.counting_tree.specs.Given.{geometry}
 use Rattle.cells_grid.specs.Cells.{cells, cell_number, listed, count}
-use Rattle.cells_grid.specs.Arrangement.{cell_at, Arranged}
-use Rattle.cells_grid.specs.Listing.{list_of, CellsSorted}
-use Rattle.cells_grid.proofs.ListingLaws.{list_sound, list_complete, list_length, list_cleared}
-use Rattle.core_cells.specs.Forest.{Grown}
-use Rattle.core_cells.specs.ForestLaws.{grown_over}
+use Rattle.cells_grid.specs.Arrangement.{cell_at}
+use Rattle.cells_grid.specs.Listing.{list_of}
+use Rattle.cells_grid.specs.declared.grid.CellsGrid.{CellsGrid}
+use Rattle.cells_grid.proofs.ListingLaws.{list_sound, list_complete}
 use Rattle.clustering.specs.Numbering.{borders_at}
-use Rattle.clustering.proofs.Held.{counted_core, frames, cell_count_lem, few_cells, own_held, own_below}
+use Rattle.clustering.proofs.Held.{counted_core}
 
 -- frame i has a non-zero count in the tree of the cell with number c
 abbrev pub counts : Geometry → ℕ → ℕ → Bool
@@ -36,6 +32,9 @@ counts g i c = nonzero (count g i (cell_at g c))
 -- o is the lowest of the first j cells of a list that pass f, each of which is below k
 abbrev pub LowestSoFar : (f : ℕ → Bool) → (k : ℕ) → List ℕ → Option ℕ → (j : ℕ) → Type 0
 LowestSoFar f k xs o j = Lowest f k xs (unwrap_or o k) j × IfSome o (λ c. c < k)
+
+pub none_so_far : (f : ℕ → Bool) (k : ℕ) (xs : List ℕ) → LowestSoFar f k xs None 0
+none_so_far f k xs = (lowest_start f k xs, tt)
 
 -- `lower` is whether c is below what is kept, of which P tells the same by its value
 pub some_lower : (o : Option ℕ) {k c : ℕ} {r : Bool} {P : ℕ → Type 0} → MatchOption o (r ≡ false) P → ((x : ℕ) → P x → r ≡ leb x c) → c < k → r ≡ leb (unwrap_or o k) c
@@ -48,81 +47,70 @@ first_of None (x ∷ xs) b l e = absurd (omega (arith, e, b x (inl refl)))
 first_of (Some c) [] b l e = absurd (omega (arith, e, l))
 first_of (Some c) (x ∷ xs) b l e = ap Some e
 
-module _ {ps : List ℤ} {v : ValidParams} {n k : ℕ} {w : List ℕ} {i : ℕ}
-    (r : Ready ps v n) (s : Grown (geometry_at v n ps) k w × (i < n)) (l : CellsSorted v n ps w × Clear w (15 * n) n × (16 * n ≤ length w)) {own : ℕ} (eo : own ≡ get_or w i 0) where
-  abbrev g : Geometry
-  g = geometry_at v n ps
+-- xs are the cells that the cell of frame i lists
+pub record Lists (s : CellsGrid) (i : ℕ) (xs : List ℕ) : Type 0 where
+  pub low : cell_number (geometry s.frames) i < s.k
+  pub items : xs ≡ list_of s.frames.v s.frames.n s.frames.points.now (cell_number (geometry s.frames) i)
 
-  abbrev gr : Grown g k w
-  gr = s.0
+-- they are the first words of the list that is written
+pub lists : (s : CellsGrid) (ws : List ℕ) {q : CellsGrid} {i own m : ℕ} {us : List ℕ} → q ≡ s → own ≡ cell_number (geometry s.frames) i → own < s.k
+    → m ≡ length (list_of q.frames.v q.frames.n q.frames.points.now own) → us ≡ over ws 0 (list_of q.frames.v q.frames.n q.frames.points.now own) → Lists s i (take m us)
+lists s ws {q} {i} {own} {m} eq eo l em eu =
+    let L : CellsGrid → ℕ → List ℕ = λ q o. list_of q.frames.v q.frames.n q.frames.points.now o in
+    record {
+      low = omega (arith, eo, l);
+      items = ap (take m) eu ∙ take_at (L q own) (drop (0 + length (L q own)) ws) m (sym em) ∙ ap₂ L eq eo;
+    }
+
+module _ {s : CellsGrid} {i : ℕ} {xs : List ℕ} (z : Lists s i xs) where
+  abbrev g : Geometry
+  g = geometry s.frames
+
+  abbrev own : ℕ
+  own = cell_number g i
 
   abbrev L : List ℕ
-  L = list_of v n ps own
-
-  own_is : own ≡ cell_number g i
-  own_is = eo ∙ own_held r gr i s.1
+  L = list_of s.frames.v s.frames.n s.frames.points.now own
 
   own_cell : own < length (cells g)
-  own_cell = omega (arith, own_is, own_below r gr i s.1, cell_count_lem r gr)
-
-  pub can_list : Ready ps v n × Arranged g k w × CellsSorted v n ps w × (own < k) × (16 * n ≤ length w)
-  can_list = (r, gr.cored.cells, l.0, omega (arith, own_cell, cell_count_lem r gr), l.2)
+  own_cell = omega (arith, z.low, s.arranged.count)
 
   abbrev near : ℕ → Bool
   near d = listed g (cell_at g own) (cell_at g d)
 
   -- the cells on the list are listed ones,
-  sound : (d : ℕ) → In d L → (d < k) × T (near d)
-  sound d j = let z = list_sound r own own_cell d j in (omega (arith, z.0, cell_count_lem r gr), z.2)
+  sound : (d : ℕ) → In d L → (d < s.k) × T (near d)
+  sound d j = let y = list_sound s.frames.ready own own_cell d j in (omega (arith, y.0, s.arranged.count), y.2)
 
   -- and those in which frame i has a non-zero count are there: they are core cells
-  complete : (d : ℕ) → d < k → T (near d) → T (counts g i d) → In d L
-  complete d h t u = list_complete r own own_cell d (omega (arith, cell_count_lem r gr)) (counted_core g i d u) t
+  complete : (d : ℕ) → d < s.k → T (near d) → T (counts g i d) → In d L
+  complete d h t u = list_complete s.frames.ready own own_cell d (omega (arith, s.arranged.count)) (counted_core g i d u) t
 
-  short : length L ≤ n
-  short = omega (arith, list_length r own own_cell, few_cells r gr, cell_count_lem r gr)
+  -- ---- at place j
+  module _ {j : ℕ} (h : j < length xs) where
+    inside : j < length L
+    inside = omega (arith, ap length z.items)
 
-  module _ {m : ℕ} (em : m ≡ length L) {u : List ℕ} (eu : u ≡ over w (15 * n) L) where
-    pub few_listed : m ≤ n
-    few_listed = omega (arith, em, short)
+    is_listed : get_or xs j 0 ≡ get_or L j 0
+    is_listed = ap (λ (y : List ℕ). get_or y j 0) z.items
 
-    pub room_listed : 16 * n ≤ length u
-    room_listed = omega (arith, ap length eu, over_length w (15 * n) L (omega (arith, short, l.2)), l.2)
+    pub listed_low : get_or xs j 0 < s.k
+    listed_low = omega (arith, is_listed, below_at s.k L j (λ d i. (sound d i).0) inside)
 
-    pub grown_listed : Grown g k u
-    grown_listed = subst (Grown g k) (sym eu) (grown_over gr (frames r gr) (15 * n) L (omega arith) (omega (arith, short)) (omega (arith, l.2)))
+    module _ (o : Option ℕ) (low : LowestSoFar (counts (geometry s.frames) i) s.k (list_of s.frames.v s.frames.n s.frames.points.now (cell_number (geometry s.frames) i)) o j) where
+      pub not_lower : unwrap_or o s.k ≤ get_or xs j 0 → LowestSoFar (counts (geometry s.frames) i) s.k (list_of s.frames.v s.frames.n s.frames.points.now (cell_number (geometry s.frames) i)) o (j + 1)
+      not_lower l = (lowest_same low.0 inside is_listed (λ t. l), low.1)
 
-    module _ {j : ℕ} (h : j < m) {c : ℕ} (ec : c ≡ get_or u (15 * n + j) 0) where
-      inside : j < length L
-      inside = omega (arith, em)
+      pub no_count : {a : Bool} → a ≡ counts (geometry s.frames) i (get_or xs j 0) → a ≡ false
+          → LowestSoFar (counts (geometry s.frames) i) s.k (list_of s.frames.v s.frames.n s.frames.points.now (cell_number (geometry s.frames) i)) o (j + 1)
+      no_count q f = (lowest_same low.0 inside is_listed (λ t. absurd (subst T (sym q ∙ f) t)), low.1)
 
-      is_listed : c ≡ get_or L j 0
-      is_listed = ec ∙ ap (λ (z : List ℕ). get_or z (15 * n + j) 0) eu ∙ get_laid w (15 * n) j L inside (omega (arith, l.2))
+      pub lower : get_or xs j 0 < unwrap_or o s.k → {a : Bool} → a ≡ counts (geometry s.frames) i (get_or xs j 0) → a ≡ true
+          → LowestSoFar (counts (geometry s.frames) i) s.k (list_of s.frames.v s.frames.n s.frames.points.now (cell_number (geometry s.frames) i)) (Some (get_or xs j 0)) (j + 1)
+      lower l q f = (lowest_less low.0 inside is_listed l (sym q ∙ f), listed_low)
 
-      pub can_ask : Ready ps v n × Grown g k u × (i < n) × (c < k)
-      can_ask = (
-        r,
-        grown_listed,
-        s.1,
-        omega (arith, is_listed, below_at k L j (λ d i. (sound d i).0) inside),
-      )
-
-      module _ (o : Option ℕ) (low : LowestSoFar (counts g i) k L o j) where
-        pub not_lower : unwrap_or o k ≤ c → LowestSoFar (counts g i) k L o (j + 1)
-        not_lower l = (lowest_same low.0 inside is_listed (λ t. l), low.1)
-
-        pub no_count : {a : Bool} → a ≡ counts g i c → a ≡ false → LowestSoFar (counts g i) k L o (j + 1)
-        no_count q f = (lowest_same low.0 inside is_listed (λ t. absurd (subst T (sym q ∙ f) t)), low.1)
-
-        pub lower : c < unwrap_or o k → {a : Bool} → a ≡ counts g i c → a ≡ true → LowestSoFar (counts g i) k L (Some c) (j + 1)
-        lower l q f = (lowest_less low.0 inside is_listed l (sym q ∙ f), can_ask.3)
-
-    module _ {o : Option ℕ} {j : ℕ} (low : LowestSoFar (counts g i) k L o j) (h : m ≤ j) where
-      pub lowest_border : o ≡ slice_get (keep (borders_at g (cell_number g i) i) (numbers k)) 0
-      unfolding borders_at
-      lowest_border =
-          subst (λ (x : ℕ). o ≡ slice_get (keep (borders_at g x i) (numbers k)) 0) own_is
-          (first_of o (keep (borders_at g own i) (numbers k)) (λ x p. in_numbers k x (in_keep (borders_at g own i) x (numbers k) p).0) low.1 (lowest_end low.0 (omega (arith, em)) near sound complete).0)
-
-    pub listed_cleared : {x : List ℕ} → x ≡ over u (15 * n) (replicate m 0) → x ≡ w
-    listed_cleared q = q ∙ ap₂ (λ (y : List ℕ) (x : ℕ). over y (15 * n) (replicate x 0)) eu em ∙ list_cleared r own own_cell w l.2 l.1
+  pub lowest_border : {o : Option ℕ} {j : ℕ} → LowestSoFar (counts (geometry s.frames) i) s.k (list_of s.frames.v s.frames.n s.frames.points.now (cell_number (geometry s.frames) i)) o j → length xs ≤ j
+      → o ≡ slice_get (keep (borders_at (geometry s.frames) (cell_number (geometry s.frames) i) i) (numbers s.k)) 0
+  unfolding borders_at
+  lowest_border {o} low h =
+      first_of o (keep (borders_at g own i) (numbers s.k)) (λ x p. in_numbers s.k x (in_keep (borders_at g own i) x (numbers s.k) p).0) low.1 (lowest_end low.0 (omega (arith, ap length z.items)) near sound complete).0

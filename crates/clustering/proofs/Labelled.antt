@@ -4,30 +4,29 @@ use mathlib.Core.Path.{◌≡◌, refl, sym, ap, ◌∙◌, subst}
 use mathlib.Core.Logic.{inl}
 use mathlib.Core.Bool.{Bool, true, false, not, ◌&&◌}
 use mathlib.Core.List.{List, [], ◌∷◌, map}
-use Prim.Native.Nat.{ℕ, ◌+◌, ◌*◌, ◌<◌}
+use Prim.Native.Nat.{ℕ, ◌<◌}
 use native.Mathlib.Omega.{arith}
-use lib.Dec.{T, eqb}
+use lib.Dec.{T}
 use lib.IntN.{ℤ}
 use lib.ListN.{length, get_or}
 use Rattle.std.specs.Prelude.{Option, None, Some, slice_get}
 use Rattle.lists.specs.Lists.{numbers, keep, In, nonzero}
-use Rattle.lists.specs.Words.{part, column}
-use Rattle.lists.specs.ListLaws.{true_T, cond_true, and_right, in_keep, in_numbers, keep_same}
+use Rattle.lists.specs.Words.{column}
+use Rattle.lists.specs.ListLaws.{true_T, cond_true, and_right, in_keep, in_numbers, keep_same, at_numbers}
 use Rattle.lists.specs.CountLaws.{keep_keep, keep_map}
-use Rattle.lists.proofs.PartLaws.{holds_at}
 use Rattle.hyperparams.specs.declared.ValidParams.{ValidParams}
 use Rattle.counting_tree.specs.Geometry.{Geometry}
-use Rattle.counting_tree.specs.Ready.{geometry_at, Ready}
+use Rattle.counting_tree.specs.Ready.{geometry_at, Ready, at_frames}
 use Rattle.cells_grid.specs.Cells.{first, cells, cell_number, listed, core, core_cell, count}
 use Rattle.cells_grid.specs.Lawful.{Lawful}
+use Rattle.cells_grid.specs.Ready.{ready_lawful}
 use Rattle.cells_grid.proofs.CellLaws.{first_same, first_in, number_cell, core_first, in_core_cell, core_cell_in}
 use Rattle.cells_grid.specs.Arrangement.{cell_at}
 use Rattle.cells_grid.proofs.ArrangementLaws.{cell_at_lem, list_by_number}
-use Rattle.core_cells.specs.Forest.{Grown}
 use Rattle.clustering.specs.Clusters.{place, clusters, touched, label_by, kind_of}
 use Rattle.clustering.proofs.ClusterLaws.{number_low, core_label, border_label_lem, noise_label}
 use Rattle.clustering.specs.Numbering.{cluster_word, borders_at}
-use Rattle.clustering.proofs.Held.{counted_core, lawful, frames, cell_count_lem, own_held, own_below, core_held}
+use Rattle.clustering.proofs.Held.{counted_core}
 
 module _ (g : Geometry) where
   pub cluster_of_lem : (c : ℕ) → T (core_cell g (cell_at g c)) → cluster_word g c ≡ place (cell_at g c) (clusters g)
@@ -101,8 +100,8 @@ module _ (g : Geometry) where
         let k = subst (λ (f : ℕ). T (core_cell g f)) (sym own_first) (in_core_cell g (first g i) (core_first g L i h t)).1 in
         (cluster_of_lem (cell_number g i) k ∙ ap (λ (c : ℕ). place c (clusters g)) own_first ∙ sym z.0, sym z.1)
 
--- ---- by the words w, of which those from 7n on hold the clusters
-module _ {ps : List ℤ} {v : ValidParams} {n : ℕ} (r : Ready ps v n) {k : ℕ} {w : List ℕ} (gr : Grown (geometry_at v n ps) k w) (i : ℕ) (h : i < n) where
+-- ---- by the words ws of the clusters
+module _ {ps : List ℤ} {v : ValidParams} {n : ℕ} (r : Ready ps v n) {k : ℕ} (cell_count : k ≡ length (cells (geometry_at v n ps))) {i : ℕ} (h : i < n) where
   abbrev g : Geometry
   g = geometry_at v n ps
 
@@ -110,40 +109,37 @@ module _ {ps : List ℤ} {v : ValidParams} {n : ℕ} (r : Ready ps v n) {k : ℕ
   Told label kind = (label ≡ label_by g (λ c. place c (clusters g)) i) × (kind ≡ kind_of g i)
 
   frame : i < g.frames
-  frame = omega (arith, frames r gr)
+  frame = omega (arith, at_frames v n ps)
 
-  pub own_low : {own : ℕ} → own ≡ get_or w i 0 → own < k
-  own_low e = omega (arith, own_held r gr i h, own_below r gr i h)
+  module _ {ws : List ℕ} (ew : ws ≡ column (cluster_word g) k) where
+    word_is : (c : ℕ) → c < k → get_or ws c 0 ≡ cluster_word g c
+    word_is c l = ap (λ (z : List ℕ). get_or z c 0) ew ∙ at_numbers (cluster_word g) 0 k c l
 
-  module _ {a : Bool} (ea : a ≡ eqb (get_or w (4 * n + i) 0) 1) (ew : part w (7 * n) k ≡ column (cluster_word g) k) where
-    is_core_lem : core g i ≡ a
-    is_core_lem = sym (ea ∙ core_held r gr i h)
+    pub label_core : core g i ≡ true → {own : ℕ} → own ≡ cell_number g i → own < k → Told (get_or ws own 0) 2
+    label_core t {own} e l =
+        let z = core_told g (ready_lawful r) i frame (true_T t) in
+        (word_is own l ∙ ap (cluster_word g) e ∙ z.0, z.1)
 
-    pub label_core : a ≡ true → {own : ℕ} → own ≡ get_or w i 0 → Told (get_or w (7 * n + own) 0) 2
-    label_core t {own} e =
-        let z = core_told g (lawful r gr) i frame (true_T (is_core_lem ∙ t)) in
-        (holds_at w (7 * n) k (cluster_word g) own ew (own_low e) ∙ ap (cluster_word g) (e ∙ own_held r gr i h) ∙ z.0, z.1)
-
-    module _ (f : a ≡ false) where
+    module _ (f : core g i ≡ false) where
       other : T (not (core g i))
-      other = rw (is_core_lem ∙ f) tt
+      other = rw f tt
 
       pub label_none : {m : ℕ} → m ≡ length (clusters g) → m ≡ 0 → Told 65535 0
       label_none e q =
-          let z = noise_label g (λ c. place c (clusters g)) i other (none_touched g (lawful r gr) i frame (omega arith)) in
+          let z = noise_label g (λ c. place c (clusters g)) i other (none_touched g (ready_lawful r) i frame (omega arith)) in
           (sym z.0, sym z.1)
 
       module _ {o : Option ℕ} (eo : o ≡ slice_get (keep (borders_at g (cell_number g i) i) (numbers k)) 0) where
         first_border : o ≡ slice_get (keep (borders_at g (cell_number g i) i) (numbers (length (cells g)))) 0
-        first_border = eo ∙ ap (λ (m : ℕ). slice_get (keep (borders_at g (cell_number g i) i) (numbers m)) 0) (cell_count_lem r gr)
+        first_border = eo ∙ ap (λ (m : ℕ). slice_get (keep (borders_at g (cell_number g i) i) (numbers m)) 0) cell_count
 
         pub border_low : {b : ℕ} → o ≡ Some b → b < k
-        border_low q = omega (arith, (border_told g (lawful r gr) i frame other (sym q ∙ first_border)).0, cell_count_lem r gr)
+        border_low q = omega (arith, (border_told g (ready_lawful r) i frame other (sym q ∙ first_border)).0, cell_count)
 
-        pub label_border : {b : ℕ} → o ≡ Some b → {u : List ℕ} → u ≡ w → Told (get_or u (7 * n + b) 0) 1
-        label_border {b} q eu =
-            let z = border_told g (lawful r gr) i frame other (sym q ∙ first_border) in
-            (ap (λ (x : List ℕ). get_or x (7 * n + b) 0) eu ∙ holds_at w (7 * n) k (cluster_word g) b ew (border_low q) ∙ z.1.0, z.1.1)
+        pub label_border : {b : ℕ} → o ≡ Some b → Told (get_or ws b 0) 1
+        label_border {b} q =
+            let z = border_told g (ready_lawful r) i frame other (sym q ∙ first_border) in
+            (word_is b (border_low q) ∙ z.1.0, z.1.1)
 
         pub label_noise : o ≡ None → Told 65535 0
-        label_noise q = noise_told g (lawful r gr) i frame other (sym q ∙ first_border)
+        label_noise q = noise_told g (ready_lawful r) i frame other (sym q ∙ first_border)

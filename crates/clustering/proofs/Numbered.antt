@@ -2,33 +2,35 @@
 use mathlib.Core.Path.{◌≡◌, refl, sym, ap, ◌∙◌}
 use mathlib.Core.Bool.{Bool, true, false, cond}
 use mathlib.Core.List.{List}
-use Prim.Native.Nat.{ℕ, ◌+◌, ◌*◌, ◌<◌, ◌≤◌}
+use Prim.Native.Nat.{ℕ, ◌+◌, ◌<◌, ◌≤◌}
 use native.Mathlib.Omega.{arith}
 use lib.ListN.{length, get_or, set}
 use borrow.Author.Tests.{eq-eqb, ne_eqb}
-use Rattle.lists.specs.Lists.{numbers, how_many, nonzero}
-use Rattle.lists.specs.Words.{over, column}
+use Rattle.lists.specs.Lists.{numbers, how_many}
+use Rattle.lists.specs.Words.{column}
 use Rattle.lists.specs.ListLaws.{true_T, T_true, at_numbers, length_numbers}
 use Rattle.lists.specs.OrderLaws.{many_snoc, kept_le}
-use Rattle.lists.proofs.PartLaws.{get_under, get_laid}
+use Rattle.lists.proofs.WordLaws.{over_all}
+use Rattle.lists.proofs.PartLaws.{get_laid}
 use Rattle.lists.proofs.LoopLaws.{Fill, fill_start, fill_step, fill_end}
-use Rattle.clustering.specs.Numbering.{core_in, lowest_in, Led, leads, number_by}
+use Rattle.clustering.specs.Numbering.{Led, leads, number_by}
 
-pub record Numbered (w : List ℕ) (n k : ℕ) (v : List ℕ) (m c : ℕ) : Type 0 where
-  pub few : k ≤ n
-  pub led : Led (core_in w n) (lowest_in w n) k
-  pub fill : Fill (number_by (core_in w n) (lowest_in w n)) w (7 * n) k v c
-  pub count : m ≡ how_many (leads (core_in w n) (lowest_in w n)) (numbers c)
+-- the lowest cells that the words ls hold
+abbrev pub held_in : List ℕ → ℕ → ℕ
+held_in ls c = get_or ls c 0
 
-pub numbered_start : {w : List ℕ} {n k : ℕ} → k ≤ n → 8 * n ≤ length w → Led (core_in w n) (lowest_in w n) k → Numbered w n k w 0 0
-numbered_start h l d = record { few = h; led = d; fill = fill_start (omega arith); count = refl }
+pub record Numbered (core : ℕ → Bool) (ls w : List ℕ) (k : ℕ) (v : List ℕ) (m c : ℕ) : Type 0 where
+  pub size : length w ≡ k
+  pub led : Led core (held_in ls) k
+  pub fill : Fill (number_by core (held_in ls)) w 0 k v c
+  pub count : m ≡ how_many (leads core (held_in ls)) (numbers c)
 
-module _ {w : List ℕ} {n k : ℕ} {v : List ℕ} {m c : ℕ} (i : Numbered w n k v m c) where
-  abbrev core : ℕ → Bool
-  core = core_in w n
+pub numbered_start : {core : ℕ → Bool} {ls w : List ℕ} {k : ℕ} → length w ≡ k → Led core (λ c. get_or ls c 0) k → Numbered core ls w k w 0 0
+numbered_start e d = record { size = e; led = d; fill = fill_start (omega arith); count = refl }
 
+module _ {core : ℕ → Bool} {ls w : List ℕ} {k : ℕ} {v : List ℕ} {m c : ℕ} (i : Numbered core ls w k v m c) where
   abbrev low : ℕ → ℕ
-  low = lowest_in w n
+  low = held_in ls
 
   abbrev number : ℕ → ℕ
   number = number_by core low
@@ -36,59 +38,52 @@ module _ {w : List ℕ} {n k : ℕ} {v : List ℕ} {m c : ℕ} (i : Numbered w n
   pub number_low : m ≤ c
   number_low = omega (arith, i.count, kept_le (leads core low) c)
 
-  -- the words below are as they were
-  below : (at : ℕ) → at < 7 * n → get_or v at 0 ≡ get_or w at 0
-  below at h = ap (λ (z : List ℕ). get_or z at 0) i.fill.work ∙ get_under w (7 * n) at (column number c) h (omega (arith, i.fill.fit))
-
   -- those of the cells before c hold their numbers
-  there : (d : ℕ) → d < c → get_or v (7 * n + d) 0 ≡ number d
+  there : (d : ℕ) → d < c → get_or v d 0 ≡ number d
   there d h =
-      ap (λ (z : List ℕ). get_or z (7 * n + d) 0) i.fill.work
-      ∙ get_laid w (7 * n) d (column number c) (omega (arith, length_numbers number c)) (omega (arith, i.fill.fit))
+      let z : 0 + d ≡ d = omega arith in
+      ap (λ (x : ℕ). get_or v x 0) (sym z)
+      ∙ ap (λ (z : List ℕ). get_or z (0 + d) 0) i.fill.work
+      ∙ get_laid w 0 d (column number c) (omega (arith, length_numbers number c)) (omega arith)
       ∙ at_numbers number 0 c d h
 
-  module _ (h : c < k) {b : Bool} (eb : b ≡ nonzero (get_or v (5 * n + c) 0)) where
-    tree : core c ≡ b
-    tree = sym (eb ∙ ap nonzero (below (5 * n + c) (omega (arith, i.few))))
-
-    next : (x : ℕ) → x ≡ number c → {o : ℕ} → o ≡ m + cond (leads core low c) 1 0 → Numbered w n k (set v (7 * n + c) x) o (c + 1)
+  module _ (h : c < k) {b : Bool} (eb : b ≡ core c) where
+    next : (x : ℕ) → x ≡ number c → {o : ℕ} → o ≡ m + cond (leads core low c) 1 0 → Numbered core ls w k (set v c x) o (c + 1)
     next x e f = record {
-      few = i.few;
+      size = i.size;
       led = i.led;
-      fill = fill_step i.fill h x (7 * n + c) refl e;
+      fill = fill_step i.fill h x c (omega arith) e;
       count = f ∙ ap (λ (z : ℕ). z + cond (leads core low c) 1 0) i.count ∙ sym (many_snoc (leads core low) c);
     }
 
-    pub number_none : b ≡ false → Numbered w n k (set v (7 * n + c) 0) m (c + 1)
+    pub number_none : b ≡ false → Numbered core ls w k (set v c 0) m (c + 1)
     unfolding number_by leads
-    number_none s = next 0 (rw (tree ∙ s)) (rw (tree ∙ s) (omega arith))
+    number_none s = next 0 (rw (sym eb ∙ s)) (rw (sym eb ∙ s) (omega arith))
 
-    module _ (s : b ≡ true) {l : ℕ} (el : l ≡ get_or v (6 * n + c) 0) where
-      is_core_lem : core c ≡ true
-      is_core_lem = tree ∙ s
-
-      lowest : low c ≡ l
-      lowest = sym (el ∙ below (6 * n + c) (omega (arith, i.few)))
+    module _ (s : b ≡ true) {l : ℕ} (el : l ≡ get_or ls c 0) where
+      core_here : core c ≡ true
+      core_here = sym eb ∙ s
 
       pub lowest_low : l ≤ c
-      lowest_low = omega (arith, lowest, i.led.lower c h (true_T is_core_lem))
+      lowest_low = omega (arith, el, i.led.lower c h (true_T core_here))
 
-      pub number_own : l ≡ c → Numbered w n k (set v (7 * n + c) m) (m + 1) (c + 1)
+      pub number_own : l ≡ c → Numbered core ls w k (set v c m) (m + 1) (c + 1)
       unfolding number_by leads
       number_own e =
-          let q : low c ≡ c = lowest ∙ e in
-          next m (i.count ∙ sym (rw (is_core_lem, q))) (sym (rw (is_core_lem, eq-eqb (low c) c q)))
+          let q : low c ≡ c = sym el ∙ e in
+          next m (i.count ∙ sym (rw (core_here, q))) (sym (rw (core_here, eq-eqb (low c) c q)))
 
-      pub number_other : (l ≡ c → ⊥) → Numbered w n k (set v (7 * n + c) (get_or v (7 * n + l) 0)) m (c + 1)
+      pub number_other : (l ≡ c → ⊥) → Numbered core ls w k (set v c (get_or v l 0)) m (c + 1)
       unfolding number_by leads
       number_other n≢ =
-          let z = i.led.itself c h (true_T is_core_lem) in
-          let less : low c < c = omega (arith, lowest, lowest_low, n≢) in
-          let own : number (low c) ≡ number c =
-          sym (rw (is_core_lem) (sym (rw (T_true (core (low c)) z.0, z.1)))) in
-          next (get_or v (7 * n + l) 0)
-          (ap (λ (x : ℕ). get_or v (7 * n + x) 0) (sym lowest) ∙ there (low c) less ∙ own)
-          (rw (is_core_lem, ne_eqb (low c) c (λ e. omega arith)) (omega arith))
+          let z = i.led.itself c h (true_T core_here) in
+          let less : low c < c = omega (arith, el, lowest_low, n≢) in
+          let own : number (low c) ≡ number c = sym (rw (core_here) (sym (rw (T_true (core (low c)) z.0, z.1)))) in
+          next (get_or v l 0)
+          (ap (λ (x : ℕ). get_or v x 0) el ∙ there (low c) less ∙ own)
+          (rw (core_here, ne_eqb (low c) c (λ e. omega arith)) (omega arith))
 
-  pub numbered_end : k ≤ c → (m ≡ how_many (leads core low) (numbers k)) × (v ≡ over w (7 * n) (column number k))
-  numbered_end h = let e : c ≡ k = omega (arith, i.fill.high) in (i.count ∙ ap (λ (z : ℕ). how_many (leads core low) (numbers z)) e, fill_end i.fill h)
+  pub numbered_end : k ≤ c → (m ≡ how_many (leads core low) (numbers k)) × (v ≡ column number k)
+  numbered_end h =
+      let e : c ≡ k = omega (arith, i.fill.high) in
+      (i.count ∙ ap (λ (z : ℕ). how_many (leads core low) (numbers z)) e, fill_end i.fill h ∙ over_all w (column number k) (length_numbers number k ∙ sym i.size))

@@ -2,32 +2,24 @@
 use mathlib.Core.Path.{◌≡◌, refl, sym, ap, ap₂, ◌∙◌, subst}
 use mathlib.Core.Bool.{Bool, true, false, cond}
 use mathlib.Core.List.{List, [], ◌∷◌, ◌++◌, map}
-use Prim.Native.Nat.{ℕ, suc, ◌+◌, ◌*◌, ◌<◌, ◌≤◌}
-use native.Mathlib.Omega.{arith}
+use Prim.Native.Nat.{ℕ, suc, ◌+◌, ◌<◌, ◌≤◌}
 use lib.Dec.{ltb}
-use lib.IntN.{ℤ}
 use lib.ListN.{length}
-use Rattle.std.specs.Prelude.{Option, None, is_some, slice_get}
+use Rattle.std.specs.Prelude.{Result, Ok, Err}
 use Rattle.lists.specs.Lists.{numbers, concat}
-use Rattle.lists.specs.Words.{over, part, rest}
-use Rattle.lists.specs.ListLaws.{true_T, in_numbers}
-use Rattle.lists.proofs.WordLaws.{over_self, over_again, over_length}
-use Rattle.lists.proofs.PartLaws.{part_length, part_same}
+use Rattle.lists.specs.Words.{rest}
+use Rattle.lists.specs.ListLaws.{in_numbers}
 use Rattle.lists.proofs.LoopLaws.{rest_start, rest_step, rest_end}
-use Rattle.hyperparams.specs.declared.ValidParams.{ValidParams}
 use Rattle.counting_tree.specs.Geometry.{Geometry}
-use Rattle.counting_tree.specs.Ready.{geometry_at, Ready}
 use Rattle.cells_grid.specs.Cells.{cells}
-use Rattle.core_cells.specs.Forest.{Grown}
-use Rattle.core_cells.specs.ForestLaws.{grown_over}
-use Rattle.partitions.specs.Leaders.{Falling, root}
+use Rattle.partitions.specs.Leaders.{root}
 use Rattle.partitions.specs.LeaderLaws.{Stands, own_stands}
 use Rattle.partitions.specs.Trials.{Holding, Outcome, run, by_leaders, by_lowest}
 use Rattle.partitions.specs.TrialLaws.{Alike, Within, alike}
 use Rattle.clustering.specs.declared.uniting.Progress.{Progress}
-use Rattle.clustering.specs.Uniting.{one_pair, pairs_with, pairs_of, touch_at, progress_of}
+use Rattle.clustering.specs.Leading.{Leading}
+use Rattle.clustering.specs.Uniting.{one_pair, pairs_with, pairs_of, touch_at, told, told_of}
 use Rattle.clustering.proofs.UnitingLaws.{with_more, with_within}
-use Rattle.clustering.proofs.Held.{frames, few_cells}
 
 -- ---- the pairs of the cells from c on, and of c with the cells from d on
 module _ (g : Geometry) (k : ℕ) where
@@ -96,101 +88,68 @@ module _ {S : Type 0} (h : Holding S) (touch : ℕ → ℕ → Bool) (trials : �
   unfolding go_on then
   run_off used ps s x xs e = run_append used ps s ∙ ap (go_on (run h touch trials used ps s).used (run h touch trials used ps s).sets) e
 
-none_left : (l : List (ℕ × ℕ)) → false ≡ is_some (slice_get l 0) → l ≡ []
-none_left [] e = refl
-none_left (x ∷ l) e = absurd (true_T e)
+-- trials tell how many they used where no pair is left, else where they ended
+none_left : (used : ℕ) (ps : List (ℕ × ℕ)) {u : ℕ} → told used ps ≡ Ok u → (ps ≡ []) × (used ≡ u)
+none_left used [] e = (refl, cc)
+none_left used (x ∷ ps) e = absurd cc
 
--- ---- the loops: w₀ are the words at first, w those now, and of the pairs `all` those of `left` are left
-pub record Going (g : Geometry) (trials n k : ℕ) (w₀ w : List ℕ) (used₀ : ℕ) (all : List (ℕ × ℕ)) (p : Progress) (left : List (ℕ × ℕ)) : Type 0 where
-  pub frames : g.frames ≡ n
-  pub few : k ≤ n
-  pub room : 7 * n ≤ length w₀
-  pub size : length w ≡ length w₀
-  pub grown : Grown g k w
-  pub falling : Falling (part w (6 * n) k)
-  pub still : w ≡ over w₀ (6 * n) (part w (6 * n) k)
-  pub on : p.next ≡ None
-  pub runs : run by_leaders (touch_at g) trials used₀ all (part w₀ (6 * n) k) ≡ run by_leaders (touch_at g) trials p.used left (part w (6 * n) k)
+some_left : (used : ℕ) (ps : List (ℕ × ℕ)) {p : Progress} → told used ps ≡ Err p → (x : ℕ × ℕ) × (xs : List (ℕ × ℕ)) × (ps ≡ x ∷ xs)
+some_left used [] e = absurd cc
+some_left used (x ∷ ps) e = (x, ps, refl)
 
-pub going_start : {ps : List ℤ} {v : ValidParams} {n : ℕ} (r : Ready ps v n) {k : ℕ} {w : List ℕ} (gr : Grown (geometry_at v n ps) k w) (trials used : ℕ)
-    → 7 * n ≤ length w → Falling (part w (6 * n) k) → {all left : List (ℕ × ℕ)} → left ≡ all
-    → Going (geometry_at v n ps) trials n k w w used all (record { used = used; next = None }) left
-going_start {ps} {v} {n} r {k} {w} gr trials used l f e = record {
-  frames = frames r gr;
-  few = few_cells r gr;
-  room = l;
-  size = refl;
-  grown = gr;
-  falling = f;
-  still = sym (over_self w (6 * n) k (part w (6 * n) k) refl (omega (arith, few_cells r gr)));
-  on = refl;
-  runs = ap (λ (qs : List (ℕ × ℕ)). run by_leaders (touch_at (geometry_at v n ps)) trials used qs (part w (6 * n) k)) (sym e);
-}
+-- ---- the loops: ls are the leaders at first and ms those now, and of the pairs `all` those of `left` are left
+pub record Going (g : Geometry) (trials k : ℕ) (ls ms : List ℕ) (used₀ used : ℕ) (all left : List (ℕ × ℕ)) : Type 0 where
+  pub leading : Leading k ms
+  pub runs : run by_leaders (touch_at g) trials used₀ all ls ≡ run by_leaders (touch_at g) trials used left ms
 
--- the answer and the words of a run that left o
-abbrev Answer : Progress → (n : ℕ) → (w₀ v : List ℕ) → Outcome (List ℕ) → Type 0
-Answer p n w₀ v o = (p ≡ progress_of o) × (v ≡ over w₀ (6 * n) o.sets)
+pub going_start : (g : Geometry) (trials used : ℕ) {k : ℕ} {ls : List ℕ} → Leading k ls → {all left : List (ℕ × ℕ)} → left ≡ all → Going g trials k ls ls used used all left
+going_start g trials used {k} {ls} l e = record { leading = l; runs = ap (λ (qs : List (ℕ × ℕ)). run by_leaders (touch_at g) trials used qs ls) (sym e) }
 
-module _ {g : Geometry} {trials n k : ℕ} {w₀ w : List ℕ} {used₀ : ℕ} {all : List (ℕ × ℕ)} {p : Progress} {left : List (ℕ × ℕ)}
-    (i : Going g trials n k w₀ w used₀ all p left) where
+-- the leaders of a run stand for the sets of the same run by lowest cells
+pub leading_stands : {k : ℕ} {ls : List ℕ} → Leading k ls → Stands k (root ls) ls
+leading_stands {k} {ls} l = subst (λ (m : ℕ). Stands m (root ls) ls) l.size (own_stands l.falling)
+
+pub stands_leading : {k : ℕ} {low : ℕ → ℕ} {ls : List ℕ} → k ≤ 65536 → Stands k low ls → Leading k ls
+stands_leading h s = record { size = s.size; few = h; falling = s.falling }
+
+module _ {g : Geometry} {trials k : ℕ} {ls ms : List ℕ} {used₀ used : ℕ} {all left : List (ℕ × ℕ)} (i : Going g trials k ls ms used₀ used all left) where
   abbrev whole : Outcome (List ℕ)
-  whole = run by_leaders (touch_at g) trials used₀ all (part w₀ (6 * n) k)
+  whole = run by_leaders (touch_at g) trials used₀ all ls
 
-  abbrev leaders : List ℕ
-  leaders = part w (6 * n) k
+  -- what is answered, and the leaders then, are those of the whole run
+  abbrev Ends : Result ℕ Progress → List ℕ → Type 0
+  Ends r qs = (r ≡ told_of whole) × (qs ≡ whole.sets)
 
-  pub going_end : left ≡ [] → Answer p n w₀ w whole
+  pub going_end : left ≡ [] → Ends (Ok used) ms
   unfolding run
   going_end h =
-      let e : whole ≡ record { sets = leaders; used = p.used; left = [] } =
-      i.runs ∙ ap (λ (ps : List (ℕ × ℕ)). run by_leaders (touch_at g) trials p.used ps leaders) h in
-      rw e (ap (λ (x : Option (ℕ × ℕ)). record { used = p.used; next = x }) i.on, i.still)
+      let e : whole ≡ record { sets = ms; used = used; left = [] } = i.runs ∙ ap (λ (ps : List (ℕ × ℕ)). run by_leaders (touch_at g) trials used ps ms) h in
+      rw e (refl, refl)
 
   -- the pairs xs are taken next, and then those of qs
   module _ (xs qs : List (ℕ × ℕ)) (inside : Within k xs) (first : left ≡ xs ++ qs) where
     abbrev o : Outcome (List ℕ)
-    o = run by_leaders (touch_at g) trials p.used xs leaders
+    o = run by_leaders (touch_at g) trials used xs ms
 
-    lead_length : length leaders ≡ k
-    lead_length = part_length w (6 * n) k (omega (arith, i.few, i.room, i.size))
+    stands : Alike k o (run by_lowest (touch_at g) trials used xs (root ms))
+    stands = alike (touch_at g) trials k xs inside used (leading_stands i.leading)
 
-    stands : Alike k o (run by_lowest (touch_at g) trials p.used xs (root leaders))
-    stands = alike (touch_at g) trials k xs inside p.used (subst (λ (m : ℕ). Stands m (root leaders) leaders) lead_length (own_stands i.falling))
+    goes : whole ≡ run by_leaders (touch_at g) trials used (xs ++ qs) ms
+    goes = i.runs ∙ ap (λ (ps : List (ℕ × ℕ)). run by_leaders (touch_at g) trials used ps ms) first
 
-    laid : over w (6 * n) o.sets ≡ over w₀ (6 * n) o.sets
-    laid =
-        ap (λ (z : List ℕ). over z (6 * n) o.sets) i.still
-        ∙ over_again w₀ (6 * n) leaders o.sets (omega (arith, i.room)) (stands.sets.size ∙ sym lead_length)
+    module _ {r : Result ℕ Progress} (er : r ≡ told_of o) {ns : List ℕ} (en : ns ≡ o.sets) where
+      pub going_off : {p : Progress} → r ≡ Err p → Ends r ns
+      going_off h =
+          let z = some_left o.used o.left (sym er ∙ h) in
+          let f : whole ≡ record { sets = o.sets; used = o.used; left = z.0 ∷ z.1 ++ qs } = goes ∙ run_off by_leaders (touch_at g) trials qs used xs ms z.0 z.1 z.2 in
+          rw f (er ∙ ap (told o.used) z.2, en)
 
-    goes : whole ≡ run by_leaders (touch_at g) trials p.used (xs ++ qs) leaders
-    goes = i.runs ∙ ap (λ (ps : List (ℕ × ℕ)). run by_leaders (touch_at g) trials p.used ps leaders) first
-
-    module _ {q : Progress} {v : List ℕ} (eq : q ≡ progress_of o) (ev : v ≡ over w (6 * n) o.sets) where
-      pub going_off : true ≡ is_some q.next → Answer q n w₀ v whole
-      going_off h = go o.left refl
-        where
-          go : (l : List (ℕ × ℕ)) → o.left ≡ l → Answer q n w₀ v whole
-          go [] e = absurd (true_T (sym (h ∙ ap (λ (z : Progress). is_some z.next) eq ∙ ap (λ (l : List (ℕ × ℕ)). is_some (slice_get l 0)) e)))
-          go (x ∷ l) e =
-              let f : whole ≡ record { sets = o.sets; used = o.used; left = x ∷ l ++ qs } = goes ∙ run_off by_leaders (touch_at g) trials qs p.used xs leaders x l e in
-              rw f (eq ∙ ap (λ (l : List (ℕ × ℕ)). record { used = o.used; next = slice_get l 0 }) e, ev ∙ laid)
-
-      pub going_on : false ≡ is_some q.next → Going g trials n k w₀ v used₀ all q qs
+      pub going_on : {u : ℕ} → r ≡ Ok u → Going g trials k ls ns used₀ u all qs
       going_on h =
-          let now : part v (6 * n) k ≡ o.sets =
-          ap (λ (z : List ℕ). part z (6 * n) k) ev ∙ part_same w (6 * n) k o.sets (omega (arith, i.room, i.size)) stands.sets.size in
-          let fit : 6 * n + length o.sets ≤ 7 * n = omega (arith, stands.sets.size, i.few) in
-          let none : o.left ≡ [] = none_left o.left (h ∙ ap (λ (z : Progress). is_some z.next) eq) in
+          let z = none_left o.used o.left (sym er ∙ h) in
           record {
-            frames = i.frames;
-            few = i.few;
-            room = i.room;
-            size = ap length ev ∙ over_length w (6 * n) o.sets (omega (arith, i.room, i.size)) ∙ i.size;
-            grown = subst (Grown g k) (sym ev) (grown_over i.grown i.frames (6 * n) o.sets (omega arith) (omega arith) (omega (arith, i.room, i.size)));
-            falling = subst Falling (sym now) stands.sets.falling;
-            still = ev ∙ laid ∙ ap (over w₀ (6 * n)) (sym now);
-            on = ap (λ (z : Progress). z.next) eq ∙ ap (λ (l : List (ℕ × ℕ)). slice_get l 0) none;
+            leading = subst (Leading k) (sym en) (stands_leading i.leading.few stands.sets);
             runs = goes
-                ∙ run_on by_leaders (touch_at g) trials qs p.used xs leaders none
-                ∙ ap₂ (λ (m : ℕ) (z : List ℕ). run by_leaders (touch_at g) trials m qs z) (sym (ap (λ (z : Progress). z.used) eq)) (sym now);
+                ∙ run_on by_leaders (touch_at g) trials qs used xs ms z.0
+                ∙ ap₂ (λ (m : ℕ) (s : List ℕ). run by_leaders (touch_at g) trials m qs s) z.1 (sym en);
           }

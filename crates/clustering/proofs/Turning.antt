@@ -1,81 +1,60 @@
--- Asking by turns in the program: one side of a turn by the places of a cell, the turns that are still to come, and what they tell of two cells.
+-- Asking by turns in the program: what turns tell of two cells, and what is told of them without.
 use mathlib.Core.Path.{◌≡◌, refl, sym, ap, ap₂, ◌∙◌}
 use mathlib.Core.Bool.{Bool, true, false, ◌||◌, cond}
 use mathlib.Core.List.{List}
-use Prim.Native.Nat.{ℕ, ◌+◌, ◌<◌, ◌≤◌, max}
+use Prim.Native.Nat.{ℕ, zero, suc, ◌+◌, ◌<◌, ◌≤◌, max}
 use native.Mathlib.Omega.{arith}
-use borrow.Author.Tests.{lt-ltb, le-ltb}
+use native.Mathlib.Numerals.{add-one}
 use lib.IntN.{ℤ}
 use lib.ListN.{length, get_or}
-use Rattle.std.specs.Prelude.{Option, Some}
-use Rattle.lists.specs.Lists.{any, In, nonzero}
+use Rattle.std.specs.Prelude.{Option, Some, None, slice_get}
+use Rattle.std.specs.List.{list_any, range_with_len}
+use Rattle.std.proofs.lemmas.Option.{slice_get-get_or, slice_get_past}
+use Rattle.lists.specs.Lists.{from, any, In, nonzero}
 use Rattle.lists.specs.Words.{rest}
 use Rattle.lists.specs.ListLaws.{true_T, T_true, any_in}
-use Rattle.lists.proofs.LoopLaws.{rest_start, rest_step, rest_end}
+use Rattle.lists.proofs.LoopLaws.{rest_start}
 use Rattle.hyperparams.specs.declared.ValidParams.{ValidParams}
 use Rattle.counting_tree.specs.Geometry.{Geometry}
-use Rattle.counting_tree.specs.Ready.{geometry_at, Ready}
+use Rattle.counting_tree.specs.Ready.{geometry_at}
 use Rattle.cells_grid.specs.Cells.{members, core, count}
 use Rattle.cells_grid.specs.Arrangement.{cell_at}
-use Rattle.core_cells.specs.Forest.{tree_frames, Grown}
+use Rattle.core_cells.specs.Forest.{tree_frames}
 use Rattle.core_cells.specs.Settling.{Apart}
 use Rattle.clustering.specs.Clusters.{touches}
 use Rattle.clustering.specs.Uniting.{touch_at}
 use Rattle.clustering.specs.UniteAll.{link_at}
 use Rattle.clustering.proofs.UniteAllLaws.{touch_links}
-use Rattle.clustering.specs.Turns.{size_at, asked_at, turn_at}
+use Rattle.clustering.specs.Turns.{size_at, core_frame_at, turn_at}
 use Rattle.clustering.specs.TurnsLaws.{any_stretches, turns_link}
 use Rattle.clustering.proofs.Touching.{touch_none}
 
--- ---- one side of a turn: xs are the frames of cell c, a says whether frame j of them is core, b whether it has a count in d
-module _ (g : Geometry) (c : ℕ) {xs : List ℕ} (ex : xs ≡ members g (cell_at g c)) where
-  pub size_held : length xs ≡ size_at g c
-  size_held = ap length ex
+-- ---- the core frame at place j of cell c, of the frames xs
+module _ (g : Geometry) (c : ℕ) {xs : List ℕ} (ex : xs ≡ members g (cell_at g c)) (j : ℕ) where
+  pub no_frame : length xs ≤ j → None ≡ core_frame_at g c j
+  unfolding core_frame_at
+  no_frame h = rw (← ex, slice_get_past xs j h) refl
 
-  module _ (d : ℕ) {j : ℕ} where
-    pub past_end : length xs ≤ j → false ≡ asked_at g c d j
-    unfolding asked_at
-    past_end h = rw (← ex, le-ltb j (length xs) h)
+  module _ (h : j < length xs) {i : ℕ} (e : i ≡ get_or xs j 0) where
+    there : slice_get xs j ≡ Some i
+    there = slice_get-get_or xs j 0 h ∙ ap Some (sym e)
 
-    module _ (h : j < length xs) {a : Bool} (ea : a ≡ core g (get_or xs j 0)) where
-      pub not_core : a ≡ false → false ≡ asked_at g c d j
-      unfolding asked_at
-      not_core f = rw (← ex, lt-ltb j (length xs) h, sym ea ∙ f)
+    pub is_frame : core g i ≡ true → Some i ≡ core_frame_at g c j
+    unfolding core_frame_at
+    is_frame f = rw (← ex, there, f) refl
 
-      pub by_count : a ≡ true → {b : Bool} → b ≡ nonzero (count g (get_or xs j 0) (cell_at g d)) → b ≡ asked_at g c d j
-      unfolding asked_at
-      by_count f e = rw (← ex, lt-ltb j (length xs) h, sym ea ∙ f) e
+    pub not_frame : core g i ≡ false → None ≡ core_frame_at g c j
+    unfolding core_frame_at
+    not_frame f = rw (← ex, there, f) refl
 
--- ---- the turns from j on tell what all from `from` on do
-pub record Turning (g : Geometry) (c d from to j : ℕ) : Type 0 where
-  pub still : any (turn_at g c d) (rest to j) ≡ any (turn_at g c d) (rest to from)
-
-pub turns_start : (g : Geometry) (c d from to : ℕ) → Turning g c d from to from
-turns_start g c d from to = record { still = refl }
-
--- a and b are what the two sides of turn j say
-module _ {g : Geometry} {c d from to j : ℕ} (t : Turning g c d from to j) where
-  step : j < to → {x : Bool} → turn_at g c d j ≡ x → cond x true (any (turn_at g c d) (rest to (j + 1))) ≡ any (turn_at g c d) (rest to from)
-  step h e = ap (λ (x : Bool). cond x true (any (turn_at g c d) (rest to (j + 1)))) (sym e) ∙ ap (any (turn_at g c d)) (sym (rest_step to j h)) ∙ t.still
-
-  module _ (h : j < to) {a : Bool} (ea : a ≡ asked_at g c d j) where
-    pub turn_first : a ≡ true → true ≡ any (turn_at g c d) (rest to from)
-    unfolding turn_at
-    turn_first f = step h {x = true} (rw (sym ea ∙ f) refl)
-
-    module _ (f : a ≡ false) {b : Bool} (eb : b ≡ asked_at g d c j) where
-      turn_is : turn_at g c d j ≡ b
-      unfolding turn_at
-      turn_is = rw (sym ea ∙ f) (sym eb)
-
-      pub turn_second : b ≡ true → true ≡ any (turn_at g c d) (rest to from)
-      turn_second e = step h (turn_is ∙ e)
-
-      pub turn_none : b ≡ false → Turning g c d from to (j + 1)
-      turn_none e = record { still = step h (turn_is ∙ e) }
-
-  pub turns_end : to ≤ j → false ≡ any (turn_at g c d) (rest to from)
-  turns_end h = ap (any (turn_at g c d)) (sym (rest_end to j h)) ∙ t.still
+-- whether one of the numbers a, a + 1, .. passes f
+pub any_from : (f : ℕ → Bool) (a n : ℕ) → list_any f (range_with_len a n) ≡ any f (from a n)
+any_from f a zero = refl
+any_from f a (suc n) = ap (λ (r : Bool). f a || r) (ap (λ (b : ℕ). list_any f (range_with_len b n)) (add-one a) ∙ any_from f (suc a) n) ∙ either (f a) (any f (from (suc a) n))
+  where
+    either : (x y : Bool) → x || y ≡ cond x true y
+    either true y = refl
+    either false y = refl
 
 -- ---- two cells a and b of the sizes p and q, which are c and d: x is what the first eight turns say
 module _ (g : Geometry) {a b c d : ℕ} (ea : a ≡ c) (eb : b ≡ d) {x : Bool} (e : x ≡ any (turn_at g a b) (rest 8 0)) where
@@ -100,13 +79,8 @@ module _ (g : Geometry) {a b c d : ℕ} (ea : a ≡ c) (eb : b ≡ d) {x : Bool}
         ∙ ap (λ (z : Bool). z || any (turn_at g c d) (rest most 8)) (sym h)
         ∙ both most (omega arith) (omega arith) (omega arith)
 
--- ---- the cells i and j, which are c and d, with what is worked out of each
-pub can_turn : {ps : List ℤ} {v : ValidParams} {n k : ℕ} {w : List ℕ} {c d i j : ℕ} {A B : Type 0} → Ready ps v n → Grown (geometry_at v n ps) k w → c < k → d < k → i ≡ c → A → j ≡ d → B
-    → (Ready ps v n × Grown (geometry_at v n ps) k w) × (((i < k) × A) × ((j < k) × B))
-can_turn r gr hc hd ei a ej b = ((r, gr), ((omega arith, a), (omega arith, b)))
-
 -- ---- what is settled of two cells
-module _ {ps : List ℤ} {v : ValidParams} {n : ℕ} (r : Ready ps v n) {c d k : ℕ} (hc : c < k) (hd : d < k) where
+module _ (v : ValidParams) (n : ℕ) (ps : List ℤ) (c d : ℕ) where
   abbrev geo : Geometry
   geo = geometry_at v n ps
 

@@ -20,7 +20,7 @@ use Rattle.cells_grid.specs.Cells.{cells, listed, core_cell}
 use Rattle.cells_grid.specs.Lawful.{Lawful}
 use Rattle.cells_grid.proofs.CellLaws.{listed_turn}
 use Rattle.cells_grid.specs.Arrangement.{cell_at}
-use Rattle.cells_grid.specs.Listing.{unmarked, later_of}
+use Rattle.cells_grid.specs.Listing.{unmarked, unlike, later_of}
 use Rattle.cells_grid.proofs.ListingLaws.{later_sound, later_complete}
 use Rattle.partitions.specs.Leaders.{shorten_both}
 use Rattle.partitions.specs.LeaderLaws.{Stands, both_stand, united_stands}
@@ -29,7 +29,7 @@ use Rattle.partitions.specs.TrialLaws.{run_finishes, run_keeps, Link, Within, jo
 use Rattle.clustering.proofs.LeaderPartition.{Lowest, unite_lowest}
 use Rattle.clustering.specs.Uniting.{pair_at, pairs_with, pairs_of, touch_at, uniting, lowest_at}
 use Rattle.clustering.proofs.UnitingLaws.{in_pairs, pairs_in, pair_parts, parts_pair, with_within, pairs_few}
-use Rattle.clustering.specs.UniteAll.{link_at, meet, meet_all, by_own_leaders, unlike, pairs_by}
+use Rattle.clustering.specs.UniteAll.{link_at, meet, meet_all, by_own_leaders, pairs_by}
 
 -- ---- however sets are held
 module _ {S : Type 0} (h : Holding S) (touch : ℕ → ℕ → Bool) where
@@ -195,20 +195,20 @@ module _ (g : Geometry) (lists : ℕ → List ℕ) where
   ]
 
   -- where each cell's mark is the lowest cell of its set, cells of one mark are in one set, and need not be met
-  pub unlike_stand : (touch : ℕ → ℕ → Bool) (n : ℕ) (w : List ℕ) (marks : ℕ) (cs : List ℕ) → Within n (pairs_by g lists cs) → {l : ℕ → ℕ} {p : List ℕ}
-      → ((c : ℕ) → c < n → get_or w (marks + c) 0 ≡ l c) → Stands n l p → Stands n (meet_all by_lowest touch (pairs_by g lists cs) l) (meet_all by_own_leaders touch (pairs_by g (unlike w marks lists) cs) p)
+  pub unlike_stand : (touch : ℕ → ℕ → Bool) (n : ℕ) (ms cs : List ℕ) → Within n (pairs_by g lists cs) → {l : ℕ → ℕ} {p : List ℕ}
+      → ((c : ℕ) → c < n → get_or ms c 0 ≡ l c) → Stands n l p → Stands n (meet_all by_lowest touch (pairs_by g lists cs) l) (meet_all by_own_leaders touch (pairs_by g (unlike ms lists) cs) p)
   unfolding unmarked
-  unlike_stand touch n w marks cs within {l} {p} low s =
+  unlike_stand touch n ms cs within {l} {p} low s =
       subst (λ (qs : List (ℕ × ℕ)). Stands n (meet_all by_lowest touch (pairs_by g lists cs) l) (meet_all by_own_leaders touch qs p)) (sym (by_some other cs))
       (fewer_stand touch n other (pairs_by g lists cs) within one s)
     where
       other : ℕ × ℕ → Bool
-      other z = not (eqb (get_or w (marks + z.1) 0) (get_or w (marks + z.0) 0))
+      other z = not (eqb (get_or ms z.1 0) (get_or ms z.0 0))
 
       one : (a b : ℕ) → In (a, b) (pairs_by g lists cs) → other (a, b) ≡ false → l a ≡ l b
       one a b i e =
           let h = within a b i in
-          let q = eqb→eq (get_or w (marks + b) 0) (get_or w (marks + a) 0) (true_T (not_turn (eqb (get_or w (marks + b) 0) (get_or w (marks + a) 0)) false e)) in
+          let q = eqb→eq (get_or ms b 0) (get_or ms a 0) (true_T (not_turn (eqb (get_or ms b 0) (get_or ms a 0)) false e)) in
           sym (low a h.0) ∙ sym q ∙ low b h.1
 
 -- ---- linked pairs

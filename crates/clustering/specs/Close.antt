@@ -5,14 +5,13 @@ use mathlib.Core.List.{List, [], ◌∷◌, map}
 use Rattle.std.proofs.Math.Dec.{ltb}
 use Rattle.std.proofs.Math.ListN.{length}
 use Rattle.lists.specs.Lists.{concat}
-use Rattle.lists.specs.Words.{part, rest}
+use Rattle.lists.specs.Words.{rest}
 use Rattle.hyperparams.specs.declared.ValidParams.{ValidParams}
 use Rattle.counting_tree.specs.Frames.{frames_in}
 use Rattle.counting_tree.specs.Geometry.{Geometry, N}
 use Rattle.counting_tree.specs.Ready.{geometry_at}
 use Rattle.cells_grid.specs.Cells.{core}
 use Rattle.cells_grid.specs.Arrangement.{cell_at}
-use Rattle.cells_grid.specs.Listing.{sorted_count}
 
 -- with how many of those before it a sorted cell is taken. (Which pairs are taken first is free.)
 abbrev pub back : ℕ
@@ -24,10 +23,6 @@ later_at zs q = get_or zs (q / back) 0
 
 abbrev pub earlier_at : List ℕ → ℕ → ℕ
 earlier_at zs q = get_or zs (q / back - 1 - q % back) 0
-
--- the core cells as they stand sorted
-abbrev pub sorted_cells : List ℕ → (n k : ℕ) → List ℕ
-sorted_cells w n k = part w (14 * n) (sorted_count w n k)
 
 module _ (v : ValidParams) (n : ℕ) (ps : List ℤ) where
   abbrev geo : Geometry

@@ -4,6 +4,7 @@ pub mod AnyOrder
 pub mod AnyList
 pub mod Uniting
 pub mod UniteAll
+pub mod Leading
 pub mod Runs
 pub mod RunsLaws
 pub mod Turns
@@ -13,3 +14,5 @@ pub mod FrameLabels
 pub mod Numbering
 pub mod NumberingLaws
 pub mod AnyLabels
+pub mod Soon
+pub mod Regions

@@ -1,18 +1,11 @@
 -- Clusters numbered by their lowest cells, labels and kinds by cell number. Definitions only.
-use Rattle.std.specs.Prelude.{◌≡◌, Bool, ◌&&◌, List, ℕ, ◌+◌, ◌*◌, ◌<◌, ◌≤◌, T, eqb, get_or}
+use Rattle.std.specs.Prelude.{◌≡◌, Bool, ◌&&◌, ℕ, ◌<◌, ◌≤◌, T, eqb}
 use Rattle.std.proofs.Math.Bool.{cond}
 use Rattle.lists.specs.Lists.{numbers, how_many, nonzero}
 use Rattle.counting_tree.specs.Geometry.{Geometry}
 use Rattle.cells_grid.specs.Cells.{cells, listed, core_cell, count}
 use Rattle.cells_grid.specs.Arrangement.{cell_at}
 use Rattle.clustering.specs.Clusters.{place, clusters}
-
--- what the words say of the cell with number c: whether it is a core cell, and the lowest cell of its set
-abbrev pub core_in : List ℕ → ℕ → ℕ → Bool
-core_in w n c = nonzero (get_or w (5 * n + c) 0)
-
-abbrev pub lowest_in : List ℕ → ℕ → ℕ → ℕ
-lowest_in w n c = get_or w (6 * n + c) 0
 
 module _ (core : ℕ → Bool) (lowest : ℕ → ℕ) where
   -- each core cell below k has the lowest cell of its set, a core cell too

@@ -1,7 +1,9 @@
 -- Laws of asking by turns: turns up to the size of the larger cell tell whether two cells are linked, in whatever stretches they are taken.
-use Rattle.std.specs.Prelude.{◌≡◌, Bool, ◌&&◌, ◌||◌, List, [], ◌∷◌, ℕ, zero, suc, ◌-◌, ◌<◌, ◌≤◌, ltb, length}
+use Rattle.std.specs.Prelude.{◌≡◌, refl, Bool, true, false, ◌&&◌, ◌||◌, List, [], ◌∷◌, ℕ, zero, suc, ◌-◌, ◌<◌, ◌≤◌, Some, ltb, length}
 use Rattle.std.proofs.Common.{sym, subst, arith, lt→ltb}
 use Rattle.std.proofs.Math.Logic.{inl, inr}
+use Rattle.std.proofs.lemmas.Option.{slice_get-get_or, slice_get_past}
+use borrow.Author.Tests.{lt-ltb, le-ltb}
 use Rattle.std.proofs.Math.Decide.{dec_lt}
 use Rattle.std.proofs.Math.Dec.{T, ltb→lt}
 use Rattle.std.proofs.Math.ListN.{get_or}
@@ -14,7 +16,7 @@ use Rattle.cells_grid.specs.Arrangement.{cell_at}
 use Rattle.clustering.specs.Clusters.{touches}
 use Rattle.clustering.specs.Uniting.{touch_at}
 use Rattle.clustering.specs.UniteAll.{link_at}
-use Rattle.clustering.specs.Turns.{size_at, asked_at, turn_at}
+use Rattle.clustering.specs.Turns.{size_at, core_of, core_frame_at, hit_by, asked_at, turn_at}
 
 -- an element of a list stands at a place
 in_place : (x : ℕ) (xs : List ℕ) → In x xs → (j : ℕ) × (j < length xs) × (get_or xs j 0 ≡ x)
@@ -50,23 +52,37 @@ module _ (g : Geometry) where
     abbrev hits : ℕ → Bool
     hits i = nonzero (count g i (cell_at g d))
 
+    -- frame j of c is asked if it is there and a core frame
+    asked_is : (j : ℕ) → asked_at g c d j ≡ ltb j (length own) && (core g (get_or own j 0) && hits (get_or own j 0))
+    unfolding asked_at core_frame_at
+    asked_is j = elim (dec_lt j (length own)) [
+      | yes l ↦ rw (slice_get-get_or own j 0 l, lt-ltb j (length own) l) (told (core g (get_or own j 0)) refl)
+      | no l ↦ rw (slice_get_past own j (omega arith), le-ltb j (length own) (omega arith)) refl
+    ]
+      where
+        told : (b : Bool) → core g (get_or own j 0) ≡ b → hit_by g d (core_of g (Some (get_or own j 0))) ≡ core g (get_or own j 0) && hits (get_or own j 0)
+        told true e = rw e refl
+        told false e = rw e refl
+
     asked_touches : (j : ℕ) → T (asked_at g c d j) → T (touch_at g c d)
-    unfolding asked_at touch_at touches core_members
-    asked_touches j t =
+    unfolding touch_at touches core_members
+    asked_touches j h =
+        let t = subst T (asked_is j) h in
         let i = get_or own j 0 in
         let l = ltb→lt j (length own) (and_left (ltb j (length own)) (core g i && hits i) t) in
         let s = and_right (ltb j (length own)) (core g i && hits i) t in
         any_in hits i (core_members g (cell_at g c)) (keep_in (core g) i own (at_in 0 own j l) (and_left (core g i) (hits i) s)) (and_right (core g i) (hits i) s)
 
     touches_asked : T (touch_at g c d) → (j : ℕ) × (j < size_at g c) × T (asked_at g c d j)
-    unfolding asked_at touch_at touches core_members
+    unfolding touch_at touches core_members
     touches_asked t =
         let z = in_any hits (core_members g (cell_at g c)) t in
         let k = in_keep (core g) z.0 own z.1 in
         let p = in_place z.0 own k.0 in
         let j = p.0 in
         let s = and_both (core g z.0) (hits z.0) k.1 z.2 in
-        (j, p.1, and_both (ltb j (length own)) (core g (get_or own j 0) && hits (get_or own j 0)) (lt→ltb j (length own) p.1) (subst (λ (i : ℕ). T (core g i && hits i)) (sym p.2) s))
+        let a = and_both (ltb j (length own)) (core g (get_or own j 0) && hits (get_or own j 0)) (lt→ltb j (length own) p.1) (subst (λ (i : ℕ). T (core g i && hits i)) (sym p.2) s) in
+        (j, p.1, subst T (sym (asked_is j)) a)
 
   -- ---- both ways
   pub turns_link : (c d m : ℕ) → size_at g c ≤ m → size_at g d ≤ m → any (turn_at g c d) (numbers m) ≡ link_at g c d

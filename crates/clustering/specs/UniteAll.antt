@@ -1,9 +1,8 @@
 -- Uniting the linked core cells with no count of trials: the pairs in whatever order lists give them. Definitions only.
-use Rattle.std.specs.Prelude.{Bool, ◌||◌, cond, ℕ, ◌+◌, eqb, get_or}
+use Rattle.std.specs.Prelude.{Bool, ◌||◌, cond, ℕ, eqb, get_or}
 use mathlib.Core.List.{List, [], ◌∷◌, map}
 use Rattle.lists.specs.Lists.{concat}
 use Rattle.counting_tree.specs.Geometry.{Geometry}
-use Rattle.cells_grid.specs.Listing.{unmarked}
 use Rattle.partitions.specs.Leaders.{root, shorten_both, united}
 use Rattle.partitions.specs.Trials.{Holding}
 use Rattle.clustering.specs.Uniting.{pairs_with, touch_at}
@@ -31,10 +30,6 @@ by_own_leaders = record {
   asked = λ p a b. cond (eqb (get_or p a 0) (get_or p b 0)) p (shorten_both p a b);
   join = λ p a b. united (shorten_both p a b) a b;
 }
-
--- of a cell's list the cells whose word from `marks` on is not its own
-abbrev pub unlike : List ℕ → (marks : ℕ) → (lists : ℕ → List ℕ) → ℕ → List ℕ
-unlike w marks lists c = unmarked w marks (get_or w (marks + c) 0) (lists c)
 
 -- the pairs of the cells cs, each with all cells of its list
 unfoldable pub pairs_by : Geometry → (ℕ → List ℕ) → List ℕ → List (ℕ × ℕ)

@@ -1,5 +1,5 @@
 -- Uniting the linked core cells by cell number: the pairs in the order in which they are tried, and the sets that the trials leave. Definitions only.
-use Rattle.std.specs.Prelude.{Bool, ◌&&◌, ℕ, length, slice_get}
+use Rattle.std.specs.Prelude.{Bool, ◌&&◌, ℕ, Some, Result, Ok, Err, length, slice_get}
 use Rattle.std.proofs.Math.Bool.{cond}
 use mathlib.Core.List.{List, [], ◌∷◌, map}
 use Rattle.lists.specs.Lists.{numbers, keep, concat}
@@ -49,3 +49,11 @@ module _ (g : Geometry) where
 -- the trials used, and the pair that still needs one, if one does
 abbrev pub progress_of : {S : Type 0} → Outcome S → Progress
 progress_of o = record { used = o.used; next = slice_get o.left 0 }
+
+-- what trials tell that have used so many and left these pairs: how many they used, or, if a pair still needs one, where they ended
+abbrev pub told : ℕ → List (ℕ × ℕ) → Result ℕ Progress
+told used [] = Ok used
+told used (p ∷ ps) = Err (record { used = used; next = Some p })
+
+abbrev pub told_of : {S : Type 0} → Outcome S → Result ℕ Progress
+told_of o = told o.used o.left

@@ -1,20 +1,16 @@
 // The clusters, numbered, and the labels and kinds of frames (`label` of the source).
-ghost use Rattle.std.specs.Prelude.{◌≡◌, ◌*◌, ◌<◌, ◌≤◌, length, slice_get};
+ghost use Rattle.std.specs.Prelude.{◌≡◌, ◌<◌, ◌≤◌, get_or, length, slice_get};
 ghost use Rattle.lists.specs.Lists.{numbers, keep, how_many};
-ghost use Rattle.lists.specs.Words.{over, part, column, Clear};
-ghost use Rattle.hyperparams.specs.Params.{max_frames};
+ghost use Rattle.lists.specs.Words.{column};
 ghost use Rattle.counting_tree.specs.Given.{geometry};
 ghost use Rattle.cells_grid.specs.Cells.{cell_number};
-ghost use Rattle.cells_grid.specs.Listing.{CellsSorted};
-ghost use Rattle.core_cells.specs.Forest.{Grown};
+ghost use Rattle.cells_grid.specs.Listing.{core_at};
 ghost use Rattle.clustering.specs.Clusters.{place, clusters, label_by, kind_of};
 ghost use Rattle.clustering.specs.FrameLabels.{label_word, kind_word};
-ghost use Rattle.clustering.specs.Numbering.{core_in, lowest_in, Led, leads, number_by, cluster_word, borders_at};
+ghost use Rattle.clustering.specs.Numbering.{Led, leads, number_by, cluster_word, borders_at};
 
-use crate::{CLUSTERS, KINDS, LABELS, LEADERS, NONE};
-use cells_grid::listing::LIST;
+use crate::{ListedCells, NONE};
 use core_cells::CoreCells;
-use counting_tree::Frames;
 use lists::Word;
 
 // What a frame is found to be: noise, or a border or a core frame of a cluster.
@@ -49,95 +45,90 @@ impl FrameLabel {
     }
 }
 
-// Numbers the clusters in ascending order of their lowest cells, and writes the number of each core cell's. Returns how many there are.
-pub fn number_clusters(work: &mut [Word], n: usize, k: usize) -> usize
-    requires { (k ≤ n) × (n ≤ max_frames) × (8 * n ≤ length work.old) × Led (core_in work.old n) (lowest_in work.old n) k }
-    ensures count { result ≡ how_many (leads (core_in work.old n) (lowest_in work.old n)) (numbers k) }
-    ensures work { work.new ≡ over work.old (7 * n) (column (number_by (core_in work.old n) (lowest_in work.old n)) k) }
+// Numbers the clusters in ascending order of their lowest cells, by the leaders, and writes the number of each core cell's. Returns how many there are.
+pub fn number_clusters(cells: &CoreCells, leaders: &[Word], cluster_of: &mut [Word]) -> usize
+    requires sizes { (length leaders.now ≡ cells.now.grid.k) × (length cluster_of.old ≡ cells.now.grid.k) }
+    requires led { let g = geometry cells.now.grid.frames in Led (core_at g) (λ c. get_or leaders.now c 0) cells.now.grid.k }
+    ensures count { let g = geometry cells.now.grid.frames in result ≡ how_many (leads (core_at g) (λ c. get_or leaders.now c 0)) (numbers cells.now.grid.k) }
+    ensures clusters { let g = geometry cells.now.grid.frames in cluster_of.new ≡ column (number_by (core_at g) (λ c. get_or leaders.now c 0)) cells.now.grid.k }
 {
     let mut m = 0;
-    for c in 0..k {
-        let at = CLUSTERS * n + c;
-        if !core_cells::is_core_cell(work, n, c) {
-            work[at] = 0;
-            continue;
-        }
-        let lowest = lists::word(work, LEADERS * n + c);
-        if lowest == c {
-            work[at] = m as Word;
+    for c in 0..cells.grid.k {
+        let lowest = leaders[c] as usize;
+        if !cells.has_core(c) {
+            cluster_of[c] = 0;
+        } else if lowest == c {
+            cluster_of[c] = m as Word;
             m += 1;
         } else {
-            work[at] = work[CLUSTERS * n + lowest];
+            cluster_of[c] = cluster_of[lowest];
         }
     }
     m
 }
 
 // The lowest listed cell in whose tree frame i has a non-zero count, if there is one.
-fn border_cell(frames: &Frames, k: usize, work: &mut [Word], i: usize) -> Option<usize>
-    requires ready { Grown (geometry frames.now) k work.old × (i < frames.now.n) }
-    requires cells_sorted { let f = frames.now in CellsSorted f.v f.n f.points.now work.old × Clear work.old (15 * f.n) f.n × (16 * f.n ≤ length work.old) }
-    ensures cell { let g = geometry frames.now in result ≡ slice_get (keep (borders_at g (cell_number g i) i) (numbers k)) 0 }
-    ensures work { work.new ≡ work.old }
+fn border_cell(cells: &ListedCells, list: &mut [Word], i: usize) -> Option<usize>
+    requires { (i < cells.now.core.grid.frames.n) × (cells.now.core.grid.k ≤ length list.old) }
+    ensures { let g = geometry cells.now.core.grid.frames in result ≡ slice_get (keep (borders_at g (cell_number g i) i) (numbers cells.now.core.grid.k)) 0 }
 {
-    let n = frames.n;
-    let own = lists::word(work, i);
-    let m = cells_grid::listing::list_cells(frames, k, work, own);
-    let cells = CoreCells {
-        frames: *frames,
-        k,
-        work: &*work,
-    };
+    let core = &cells.core;
+    let m = cells.sorted().list_cells(core.grid.cell_of(i), list);
     let mut lowest = None;
-    for j in 0..m {
-        let c = lists::word(cells.work, LIST * n + j);
+    for c in &list[..m] {
+        let c = *c as usize;
         if lowest.is_some_and(|b| b <= c) {
             continue;
         }
-        if cells.reaches(i, c, cells.root_first(c)) {
+        if core.reaches(i, c, core.root_first(c)) {
             lowest = Some(c);
         }
     }
-    lists::clear_words(work, LIST * n, m);
     lowest
 }
 
-// The label and the kind of frame i, where there are m clusters. Without a cluster no frame borders on a cell.
-pub fn label_frame(frames: &Frames, k: usize, work: &mut [Word], m: usize, i: usize) -> FrameLabel
-    requires ready { Grown (geometry frames.now) k work.old × (i < frames.now.n) }
-    requires cells_sorted { let f = frames.now in CellsSorted f.v f.n f.points.now work.old × Clear work.old (15 * f.n) f.n × (16 * f.n ≤ length work.old) }
-    requires m_value { (m ≡ length (clusters (geometry frames.now))) × (part work.old (7 * frames.now.n) k ≡ column (cluster_word (geometry frames.now)) k) }
-    ensures label { let g = geometry frames.now in label_word result ≡ label_by g (λ c. place c (clusters g)) i }
-    ensures kind { kind_word result ≡ kind_of (geometry frames.now) i }
-    ensures work { work.new ≡ work.old }
+// The label and the kind of frame i, where there are m clusters, and the words hold that of each core cell. Without a cluster no frame borders on a cell.
+pub fn label_frame(
+    cells: &ListedCells,
+    cluster_of: &[Word],
+    m: usize,
+    list: &mut [Word],
+    i: usize,
+) -> FrameLabel
+    requires frame { (i < cells.now.core.grid.frames.n) × (cells.now.core.grid.k ≤ length list.old) }
+    requires clusters { let g = geometry cells.now.core.grid.frames in (m ≡ length (clusters g)) × (cluster_of.now ≡ column (cluster_word g) cells.now.core.grid.k) }
+    ensures label { let g = geometry cells.now.core.grid.frames in label_word result ≡ label_by g (λ c. place c (clusters g)) i }
+    ensures kind { kind_word result ≡ kind_of (geometry cells.now.core.grid.frames) i }
 {
-    let n = frames.n;
-    if cells_grid::is_core(work, n, i) {
-        let own = lists::word(work, i);
-        return FrameLabel::Core(work[CLUSTERS * n + own]);
+    if cells.core.is_core(i) {
+        return FrameLabel::Core(cluster_of[cells.core.grid.cell_of(i)]);
     }
     if m == 0 {
         return FrameLabel::Noise;
     }
-    match border_cell(frames, k, work, i) {
+    match border_cell(cells, list, i) {
         None => FrameLabel::Noise,
-        Some(c) => FrameLabel::Border(work[CLUSTERS * n + c]),
+        Some(c) => FrameLabel::Border(cluster_of[c]),
     }
 }
 
-// Writes the label and the kind of each frame, where there are m clusters.
-pub fn label_frames(frames: &Frames, k: usize, work: &mut [Word], m: usize)
-    requires ready { Grown (geometry frames.now) k work.old }
-    requires cells_sorted { let f = frames.now in CellsSorted f.v f.n f.points.now work.old × Clear work.old (15 * f.n) f.n × (16 * f.n ≤ length work.old) }
-    requires m_value { (m ≡ length (clusters (geometry frames.now))) × (part work.old (7 * frames.now.n) k ≡ column (cluster_word (geometry frames.now)) k) }
-    ensures { let f = frames.now in let g = geometry f in work.new ≡ over (over work.old
-        (8 * f.n) (column (label_by g (λ c. place c (clusters g))) f.n))
-        (9 * f.n) (column (kind_of g) f.n) }
+// Writes the label and the kind of each frame.
+pub fn label_frames(
+    cells: &ListedCells,
+    cluster_of: &[Word],
+    m: usize,
+    labels: &mut [Word],
+    kinds: &mut [Word],
+    list: &mut [Word],
+)
+    requires sizes { let n = cells.now.core.grid.frames.n in (length labels.old ≡ n) × (length kinds.old ≡ n) × (cells.now.core.grid.k ≤ length list.old) }
+    requires clusters { let g = geometry cells.now.core.grid.frames in (m ≡ length (clusters g)) × (cluster_of.now ≡ column (cluster_word g) cells.now.core.grid.k) }
+    ensures labels { let f = cells.now.core.grid.frames in let g = geometry f in labels.new ≡ column (label_by g (λ c. place c (clusters g))) f.n }
+    ensures kinds { let f = cells.now.core.grid.frames in kinds.new ≡ column (kind_of (geometry f)) f.n }
 {
-    let n = frames.n;
-    for i in 0..n {
-        let f = label_frame(frames, k, work, m, i);
-        work[LABELS * n + i] = f.label();
-        work[KINDS * n + i] = f.kind();
+    for i in 0..cells.core.grid.frames.n {
+        let found = label_frame(cells, cluster_of, m, list, i);
+        labels[i] = found.label();
+        kinds[i] = found.kind();
     }
 }

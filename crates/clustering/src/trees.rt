@@ -1,21 +1,22 @@
 // Whether the trees of large cells are asked, seen before any is built: cells are united as far as whole numbers of a few of their frames tell, and then it is
 // seen whether a large cell still finds one of another set. No label depends on the answer.
-ghost use Rattle.std.specs.Prelude.{◌≡◌, ℕ, ◌+◌, ◌-◌, ◌*◌, ◌<◌, ◌≤◌, ltb, length, get_or};
-ghost use Rattle.lists.specs.Lists.{In};
+ghost use Rattle.std.specs.Prelude.{◌≡◌, ◌+◌, ◌*◌, ◌<◌, ◌≤◌, length};
+ghost use Rattle.lists.specs.Lists.{Below};
 ghost use Rattle.lists.specs.Words.{over, part, Clear};
-ghost use Rattle.hyperparams.specs.Params.{max_frames};
 ghost use Rattle.counting_tree.specs.Given.{geometry};
-ghost use Rattle.cells_grid.specs.Listing.{CellsSorted};
-ghost use Rattle.cells_grid.specs.Places.{end_in};
+ghost use Rattle.cells_grid.specs.Listing.{Marked};
 ghost use Rattle.core_cells.specs.Forest.{Grown};
-ghost use Rattle.partitions.specs.Leaders.{Falling};
-ghost use Rattle.clustering.specs.Runs.{RunsIn};
+ghost use Rattle.clustering.specs.Regions.{Listable};
+ghost use Rattle.clustering.specs.Soon.{is_near_at, soon_near_at, soon_linked_at};
 
-use crate::linking::size_of;
-use crate::marks::{MARKS, mark_cells};
-use crate::sets;
-use cells_grid::listing::{ENDS, LIST};
-use core_cells::{CoreCells, PATHS};
+use crate::linking::core_frame;
+use crate::links::{Links, meet_stage};
+use crate::marks::mark_cells;
+use crate::regions::listed_cells;
+use crate::{LEADERS, ListedCells};
+use cells_grid::CellsGrid;
+use cells_grid::listing::ENDS;
+use core_cells::{CoreCells, NODES, PATHS};
 use counting_tree::Frames;
 use hyperparams::ValidParams;
 use lists::Word;
@@ -23,90 +24,36 @@ use lists::Word;
 // How many frames of a cell are looked at, where no tree is asked.
 const SOON: usize = 8;
 
-// Whether frame j of cell c, where c has so many, is a core frame nearer than the tolerance to a core frame of cell d.
+// Whether frame j of cell c is a core frame nearer than the tolerance to a core frame of cell d.
 fn is_near(cells: &CoreCells, c: usize, d: usize, j: usize) -> bool
-    requires { (c < cells.now.k) × (d < cells.now.k) }
+    requires { (c < cells.now.grid.k) × (d < cells.now.grid.k) }
+    ensures { let f = cells.now.grid.frames in result ≡ is_near_at f.v f.n f.points.now c d j }
 {
-    let own = cells.frames_of(c);
-    if j >= own.len() {
-        return false;
+    match core_frame(cells, c, j) {
+        Some(i) => cells.settled_by_frames(i, d) == Some(true),
+        None => false,
     }
-    let i = own[j] as usize;
-    cells.is_core(i) && cells.settled_by_frames(i, d) == Some(true)
 }
 
 // Whether one of the first frames of cell c is a core frame nearer than the tolerance to a core frame of cell d.
 fn is_soon_near(cells: &CoreCells, c: usize, d: usize) -> bool
-    requires { (c < cells.now.k) × (d < cells.now.k) }
+    requires { (c < cells.now.grid.k) × (d < cells.now.grid.k) }
+    ensures { let f = cells.now.grid.frames in result ≡ soon_near_at f.v f.n f.points.now c d }
 {
     (0..SOON).any(|j| is_near(cells, c, d, j))
 }
 
-// Whether cells c and d are not apart by their spans, and the first frames of one of them tell that they are linked.
-fn is_soon_linked(cells: &CoreCells, c: usize, d: usize) -> bool
-    requires { (c < cells.now.k) × (d < cells.now.k) }
-{
-    if cells.apart(c, d) {
-        return false;
-    }
-    if is_soon_near(cells, c, d) {
-        return true;
-    }
-    is_soon_near(cells, d, c)
-}
+// The test whether cells are not apart by their spans, and the first frames of one of them tell that they are linked.
+#[derive(Clone, Copy)]
+struct SoonLinked<'a>(&'a CoreCells<'a>);
 
-// Takes a pair of cells: where they are in two sets and soon found linked, makes one set of theirs.
-fn meet_soon(frames: &Frames, k: usize, work: &mut [Word], c: usize, d: usize)
-    requires ready { Grown (geometry frames.now) k work.old × (c < k) × (d < k) }
-    requires n_in_bounds { (16 * frames.now.n ≤ length work.old) × Falling (part work.old (6 * frames.now.n) k) }
-    ensures others { work.new ≡ over work.old (6 * frames.now.n) (part work.new (6 * frames.now.n) k) }
-    ensures leaders { Falling (part work.new (6 * frames.now.n) k) }
-{
-    let n = frames.n;
-    if !sets::in_two_sets(work, n, k, c, d) {
-        return;
-    }
-    let cells = CoreCells {
-        frames: *frames,
-        k,
-        work: &*work,
-    };
-    if is_soon_linked(&cells, c, d) {
-        sets::unite(work, n, k, c, d);
-    }
-}
+impl Links for SoonLinked<'_> {
+    ghost cells = { λ l. l.0.now.grid.k };
 
-// Takes cell c with each of the m cells from 15n on.
-fn meet_soon_list(frames: &Frames, k: usize, work: &mut [Word], c: usize, m: usize)
-    requires ready { Grown (geometry frames.now) k work.old × (c < k) × (m ≤ frames.now.n) }
-    requires n_in_bounds { (16 * frames.now.n ≤ length work.old) × Falling (part work.old (6 * frames.now.n) k) }
-    requires by_index { (d : ℕ) → In d (part work.old (15 * frames.now.n) m) → d < k }
-    ensures others { work.new ≡ over work.old (6 * frames.now.n) (part work.new (6 * frames.now.n) k) }
-    ensures leaders { Falling (part work.new (6 * frames.now.n) k) }
-{
-    let n = frames.n;
-    for j in 0..m {
-        let d = lists::word(work, LIST * n + j);
-        meet_soon(frames, k, work, c, d);
-    }
-}
+    ghost linked = { λ l. let f = l.0.now.grid.frames in soon_linked_at f.v f.n f.points.now };
 
-// Takes each core cell with the core cells that it finds from its own row on and that do not have its mark.
-fn unite_soon(frames: &Frames, k: usize, work: &mut [Word])
-    requires ready { let f = frames.now in Grown (geometry f) k work.old × CellsSorted f.v f.n f.points.now work.old }
-    requires n_in_bounds { let f = frames.now in (16 * f.n ≤ length work.old) × Clear work.old (15 * f.n) f.n × Falling (part work.old (6 * f.n) k) × RunsIn work.old f.n k }
-    ensures others { work.new ≡ over work.old (6 * frames.now.n) (part work.new (6 * frames.now.n) k) }
-    ensures leaders { Falling (part work.new (6 * frames.now.n) k) }
-{
-    let n = frames.n;
-    for c in 0..k {
-        if !core_cells::is_core_cell(work, n, c) {
-            continue;
-        }
-        let mark = lists::word(work, MARKS * n + c);
-        let m = cells_grid::listing::list_later(frames, k, work, c, MARKS * n, mark);
-        meet_soon_list(frames, k, work, c, m);
-        lists::clear_words(work, LIST * n, m);
+    fn linked(&self, c: usize, d: usize) -> bool {
+        !self.0.apart(c, d) && (is_soon_near(self.0, c, d) || is_soon_near(self.0, d, c))
     }
 }
 
@@ -114,113 +61,112 @@ fn unite_soon(frames: &Frames, k: usize, work: &mut [Word])
 const BORDER: usize = 64;
 
 // Whether cell c is large: so many frames may be core that it would have a tree.
-fn is_large(work: &[Word], n: usize, k: usize, c: usize) -> bool
-    requires { (c < k) × (k ≤ n) × (3 * n ≤ length work.now) × (get_or work.now (2 * n + c) 0 ≤ end_in work.now n k c) }
-    ensures { result ≡ ltb 64 (end_in work.now n k c - get_or work.now (2 * n + c) 0) }
+fn is_large(grid: &CellsGrid, c: usize) -> bool
+    requires { c < grid.now.k }
 {
-    size_of(work, n, k, c) > PATHS
+    grid.frames_of(c).len() > PATHS
 }
 
 // Whether some cell is large.
-fn has_large(work: &[Word], n: usize, k: usize) -> bool
-    requires k_le_n { (k ≤ n) × (n ≤ max_frames) × (3 * n ≤ length work.now) }
-    requires by_index { (c : ℕ) → c < k → get_or work.now (2 * n + c) 0 ≤ end_in work.now n k c }
-{
-    (0..k).any(|c| is_large(work, n, k, c))
+fn has_large(grid: &CellsGrid) -> bool {
+    (0..grid.k).any(|c| is_large(grid, c))
 }
 
 // Whether more than BORDER frames are not core.
-fn has_border(work: &[Word], n: usize) -> bool
-    requires { (n ≤ max_frames) × (5 * n ≤ length work.now) }
-{
-    (0..n).filter(|i| !cells_grid::is_core(work, n, *i)).count() > BORDER
-}
-
-// Whether c or d is large.
-fn one_large(work: &[Word], n: usize, k: usize, c: usize, d: usize) -> bool
-    requires c_lt_k { (c < k) × (d < k) × (k ≤ n) × (3 * n ≤ length work.now) }
-    requires c_bound { (get_or work.now (2 * n + c) 0 ≤ end_in work.now n k c) × (get_or work.now (2 * n + d) 0 ≤ end_in work.now n k d) }
-{
-    if is_large(work, n, k, c) {
-        return true;
-    }
-    is_large(work, n, k, d)
+fn has_border(cells: &CoreCells) -> bool {
+    (0..cells.grid.frames.n)
+        .filter(|i| !cells.is_core(*i))
+        .count()
+        > BORDER
 }
 
 // Whether c or d is large, and the two are not apart by their spans.
 fn asks_tree(cells: &CoreCells, c: usize, d: usize) -> bool
-    requires { (c < cells.now.k) × (d < cells.now.k) }
+    requires { (c < cells.now.grid.k) × (d < cells.now.grid.k) }
 {
-    let n = cells.frames.n;
-    if one_large(cells.work, n, cells.k, c, d) {
-        return !cells.apart(c, d);
-    }
-    false
+    (is_large(&cells.grid, c) || is_large(&cells.grid, d)) && !cells.apart(c, d)
 }
 
-// Whether a tree would be asked with cell c and one of the m cells from 15n on.
-fn asks_trees(cells: &CoreCells, c: usize, m: usize) -> bool
-    requires ready { (c < cells.now.k) × (m ≤ cells.now.frames.n) × (16 * cells.now.frames.n ≤ length cells.now.work.now) }
-    requires by_index { (d : ℕ) → In d (part cells.now.work.now (15 * cells.now.frames.n) m) → d < cells.now.k }
+// Whether a tree would be asked with cell c and one of some cells.
+fn asks_trees(cells: &CoreCells, c: usize, list: &[Word]) -> bool
+    requires { (c < cells.now.grid.k) × Below cells.now.grid.k list.now }
 {
-    let n = cells.frames.n;
-    for j in 0..m {
-        let d = lists::word(cells.work, LIST * n + j);
-        if asks_tree(cells, c, d) {
-            return true;
-        }
-    }
-    false
+    list.iter().any(|d| asks_tree(cells, c, *d as usize))
 }
 
 // Whether some core cell finds a core cell of another mark with which a tree would be asked.
-fn some_ask(frames: &Frames, k: usize, work: &mut [Word]) -> bool
-    requires ready { let f = frames.now in Grown (geometry f) k work.old × CellsSorted f.v f.n f.points.now work.old }
-    requires n_in_bounds { let f = frames.now in (16 * f.n ≤ length work.old) × Clear work.old (15 * f.n) f.n × RunsIn work.old f.n k }
-    ensures { work.new ≡ work.old }
+fn some_ask(cells: &ListedCells, marks: &[Word], runs: &[Word], list: &mut [Word]) -> bool
+    requires { Marked cells.now.places.now marks.now runs.now × (cells.now.core.grid.k ≤ length list.old) }
 {
-    let n = frames.n;
-    for c in 0..k {
-        if !core_cells::is_core_cell(work, n, c) {
-            continue;
-        }
-        let mark = lists::word(work, MARKS * n + c);
-        let m = cells_grid::listing::list_later(frames, k, work, c, MARKS * n, mark);
-        let cells = CoreCells {
-            frames: *frames,
-            k,
-            work: &*work,
-        };
-        let ask = asks_trees(&cells, c, m);
-        lists::clear_words(work, LIST * n, m);
-        if ask {
-            return true;
+    let sorted = cells.sorted();
+    for c in 0..cells.core.grid.k {
+        if cells.core.has_core(c) {
+            let m = sorted.list_later(marks, runs, c, list);
+            if asks_trees(&cells.core, c, &list[..m]) {
+                return true;
+            }
         }
     }
     false
 }
 
-// Unites cells as far as no tree is asked, and marks them with the lowest cells of their sets.
-fn unite_without_trees(frames: &Frames, k: usize, work: &mut [Word])
-    requires { let f = frames.now in Grown (geometry f) k work.old × CellsSorted f.v f.n f.points.now work.old
-        × (16 * f.n ≤ length work.old) × Clear work.old (15 * f.n) f.n }
-    ensures others { let f = frames.now in work.new ≡ over (over work.old (6 * f.n) (part work.new (6 * f.n) k)) (8 * f.n) (part work.new (8 * f.n) (2 * f.n)) }
-    ensures runs { RunsIn work.new frames.now.n k }
+// Whether trees would be asked once cells are united as far as no tree is.
+fn asked_at_last(
+    cells: &ListedCells,
+    leaders: &mut [Word],
+    marks: &mut [Word],
+    runs: &mut [Word],
+    list: &mut [Word],
+) -> bool
+    requires { let k = cells.now.core.grid.k in (length leaders.old ≡ k) × (length marks.old ≡ k) × (length runs.old ≡ k) × (k ≤ length list.old) }
 {
-    let n = frames.n;
-    sets::reset(work, n, k);
-    crate::close::unite_close_cells(frames, k, work);
-    mark_cells(work, n, k);
-    unite_soon(frames, k, work);
-    mark_cells(work, n, k);
+    partitions::reset(leaders);
+    crate::close::unite_close_cells(cells, leaders);
+    mark_cells(cells.places, leaders, marks, runs);
+    let links = SoonLinked(&cells.core);
+    meet_stage(
+        &links,
+        cells,
+        marks,
+        runs,
+        leaders,
+        list,
+        0..cells.core.grid.k,
+    );
+    mark_cells(cells.places, leaders, marks, runs);
+    some_ask(cells, marks, runs, list)
 }
 
 // Whether trees may be asked that were not built: with s 0 none is, and where there are many cells those of the large ones are there.
 fn may_lack(v: ValidParams, n: usize, k: usize) -> bool {
-    if v.s == 0 {
-        return false;
-    }
-    core_cells::path_limit(v.s, n, k) > PATHS
+    v.s > 0 && core_cells::path_limit(v.s, n, k) > PATHS
+}
+
+// Whether trees would be asked of the cells as they stand sorted, in four words a frame, with room for a list.
+fn asked_words<'a>(
+    frames: Frames<'a>,
+    k: usize,
+    work: &'a [Word],
+    sorted: &'a [Word],
+    nodes: &'a [Word],
+    words: &mut [Word],
+    list: &mut [Word],
+) -> bool
+    requires cells { Listable frames.v frames.n frames.points.now k work.now sorted.now nodes.now }
+    requires sizes { (length words.old ≡ 4 * frames.n) × (length list.old ≡ frames.n) }
+    ensures { let n = frames.entry.n in words.new ≡ over (over words.old 0 (part words.new 0 k)) (2 * n) (part words.new (2 * n) (2 * n)) }
+{
+    let n = frames.n;
+    let cells = listed_cells(frames, k, work, sorted, nodes);
+    let (leaders, rest) = words.split_at_mut(2 * n);
+    let (runs, marks) = rest.split_at_mut(n);
+    asked_at_last(
+        &cells,
+        &mut leaders[..k],
+        &mut marks[..k],
+        &mut runs[..k],
+        list,
+    )
 }
 
 // Whether trees are asked. (The answer is free: no label depends on whether a cell has a tree.) It works in the words of the leaders, and from 8n up to 10n.
@@ -229,18 +175,27 @@ pub fn wanted(frames: &Frames, k: usize, work: &mut [Word]) -> bool
     ensures { let n = frames.now.n in work.new ≡ over (over work.old (6 * n) (part work.new (6 * n) k)) (8 * n) (part work.new (8 * n) (2 * n)) }
 {
     let n = frames.n;
-    if !may_lack(frames.v, n, k) {
+    let words = &*work;
+    let cells = CoreCells {
+        grid: CellsGrid {
+            frames: *frames,
+            k,
+            work: &words[..LEADERS * n],
+        },
+        nodes: &words[NODES * n..],
+    };
+    if !may_lack(frames.v, n, k) || !has_large(&cells.grid) {
         return false;
     }
-    if !has_large(work, n, k) {
-        return false;
-    }
-    if has_border(work, n) {
+    if has_border(&cells) {
         return true;
     }
     cells_grid::listing::sort_cells(frames, k, work);
-    unite_without_trees(frames, k, work);
-    let r = some_ask(frames, k, work);
-    lists::clear_words(work, ENDS * n, 5 * n);
-    r
+    let (cells, rest) = work.split_at_mut(LEADERS * n);
+    let (words, rest) = rest.split_at_mut(4 * n);
+    let (sorted, rest) = rest.split_at_mut(5 * n);
+    let (list, nodes) = rest.split_at_mut(n);
+    let asked = asked_words(*frames, k, cells, sorted, nodes, words, list);
+    lists::clear_words(work, ENDS * n, 6 * n);
+    asked
 }

@@ -20,14 +20,11 @@ use Rattle.counting_tree.specs.Ready.{geometry_at, Ready, at_frames}
 use Rattle.cells_grid.specs.Cells.{cells}
 use Rattle.cells_grid.specs.Places.{populated}
 use Rattle.cells_grid.specs.Arrangement.{core_bit, Arranged, Cored}
-use Rattle.cells_grid.proofs.ArrangementLaws.{words_count, cored, populated_arranged, populated_within}
+use Rattle.cells_grid.proofs.ArrangementLaws.{cored, populated_arranged, populated_within}
 use Rattle.cells_grid.specs.Ready.{ready_lawful}
 use Rattle.core_cells.specs.Forest.{tree_word, forest_to, Grown}
 use Rattle.counting_tree.specs.declared.run.Frames.{Frames}
-use Rattle.core_cells.specs.declared.cells.CoreCells.{CoreCells}
-use Rattle.core_cells.specs.Held.{held}
-use Rattle.counting_tree.specs.Given.{geometry}
-use Rattle.core_cells.specs.ForestLaws.{grown, word_room}
+use Rattle.core_cells.specs.ForestLaws.{grown}
 
 -- w are the words before `prepare`, w₀ after `clear_words`, w₁ after `populate`, w₂ after `label_points`, w₃ after `build_trees`
 module _ {ps : List ℤ} {v : ValidParams} {n : ℕ} (r : Ready ps v n) (w : List ℕ) {w₀ : List ℕ} (h : 24 * n ≤ length w) (e₀ : w₀ ≡ over w (10 * n) (replicate (14 * n) 0)) where
@@ -65,26 +62,6 @@ module _ {ps : List ℤ} {v : ValidParams} {n : ℕ} (r : Ready ps v n) (w : Lis
 
       pub grown₃ : {w₃ : List ℕ} → w₃ ≡ over (over w₂ (5 * n) (column (tree_word g 0) k)) (16 * n) (forest_to g 0 k) → Grown g k w₃
       grown₃ e₃ = rw e₃ (grown cored₂ f (omega (arith, h₀, within₂.size)) 0)
-
--- what the words of the cells hold
-module _ (c : CoreCells) where
-  abbrev gs : Geometry
-  gs = geometry c.frames
-
-  stands : Arranged gs c.k c.work.now
-  stands = (held c).cored.cells
-
-  pub few_cells : c.k ≤ c.frames.n
-  few_cells = words_count gs (ready_lawful c.frames.ready) stands c.frames.n (at_frames c.frames.v c.frames.n c.frames.points.now)
-
-  pub core_room : {i : ℕ} → i < c.frames.n → 5 * c.frames.n ≤ length c.work.now
-  core_room {i} h =
-      let n = c.frames.n in
-      let cores = subst (λ (m : ℕ). part c.work.now (4 * m) m ≡ column (core_bit gs) m) (at_frames c.frames.v n c.frames.points.now) (held c).cored.cores in
-      omega (arith, ap length cores, length-take n (drop (4 * n) c.work.now), length-drop (4 * n) c.work.now, length_numbers (core_bit gs) n)
-
-  pub room : {d : ℕ} → d < c.k → 5 * c.frames.n + d < length c.work.now
-  room {d} h = word_room (held c) (at_frames c.frames.v c.frames.n c.frames.points.now) d h
 
 -- what the table accepts, with labels and kinds for every frame
 module _ (p : Params) (ps : List ℤ) (work : ℕ) {v : ValidParams} (a : Ok v ≡ checked_of p (length ps) max_frames max_frames work) where

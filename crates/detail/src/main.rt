@@ -8,8 +8,9 @@ ghost use Rattle.hyperparams.specs.Params.{work_words};
 ghost use Rattle.counting_tree.specs.Given.{geometry};
 ghost use Rattle.core_cells.specs.Forest.{Grown};
 
-use cells_grid::{PLACES, STARTS};
-use core_cells::CoreCells;
+use cells_grid::CellsGrid;
+use cells_grid::listing::TREES;
+use core_cells::{CoreCells, NODES};
 use counting_tree::Frames;
 use hexadecimal::{number, signed};
 use hyperparams::{Params, Refusal};
@@ -17,14 +18,10 @@ use lists::Word;
 use std::alloc::{AllocError, Global};
 use std::io;
 use std::io::Read;
+use tree_structure::Node;
 
-// Where regions of the work words begin, in multiples of the number of frames: two more than the number of the first node of each cell's tree,
-// what the phases need to be 0 (fourteen regions), the nodes (over the last eight of these).
-const TREES: usize = 5;
-
+// Where the words begin that the phases need to be 0 (fourteen regions), in multiples of the number of frames.
 const CLEAR: usize = 10;
-
-const NODES: usize = 16;
 
 // The digits of a line of settings, and the bytes of a line that ends a set.
 const HEAD: usize = 12;
@@ -58,113 +55,73 @@ fn read_points(alloc: Global, lines: &[u8]) -> Result<Vec<i16>, AllocError> {
     Ok(points)
 }
 
-// The word at a place, 0 past the end.
-fn word(work: &[Word], at: usize) -> usize
-    ensures { result < 65536 }
-{
-    work.get(at).copied().map_or(0, usize::from)
-}
-
-// Writes the words from a place up to another.
-fn show_words(rt: &impl Print, work: &[Word], from: usize, to: usize) -> io::Result<()> {
-    for i in from..to {
-        let n = word(work, i);
-        print!(rt; " {n}")?;
-    }
-    Ok(())
-}
-
 // Writes the list of cell c.
 fn show_list(rt: &impl Print, cells: &CoreCells, c: usize) -> io::Result<()>
-    requires { c < cells.now.k }
+    requires { c < cells.now.grid.k }
 {
-    for d in 0..cells.k {
-        if cells_grid::is_listed(&cells.frames, cells.work, c, d) {
+    for d in 0..cells.grid.k {
+        if cells.grid.is_listed(c, d) {
             print!(rt; " {d}")?;
         }
     }
     Ok(())
 }
 
-// The level of node j in a tree whose first node is `root`: how many nodes before it have it in their subtree.
-fn level_of(work: &[Word], nodes: usize, root: usize, j: usize) -> usize
-    requires { (nodes ≤ 65536) × (j ≤ 131072) }
-    ensures { result ≤ 131072 }
+// The nodes of the tree of cell c, if it has one: as many as the first one counts.
+fn nodes_of<'a>(cells: &'a CoreCells, c: usize) -> Option<&'a [[Word; 4]]>
+    requires { c < cells.now.grid.k }
 {
-    let mut level = 0;
-    for i in root..j {
-        if i + word(work, nodes + 4 * i + 1) > j {
-            level += 1;
-        }
-    }
-    level
+    let (nodes, _) = cells.tree_of(c)?.as_chunks::<4>();
+    let first = Node::read(nodes.first()?);
+    nodes.get(..first.size)
 }
 
-// Writes node j of a tree: its level, its count and its first frame.
-fn show_node(rt: &impl Print, work: &[Word], nodes: usize, root: usize, j: usize) -> io::Result<()>
-    requires { (nodes ≤ 65536) × (j ≤ 131072) }
+// The level of node j of a tree: how many nodes before it have it in their subtree.
+fn level_of(tree: &[[Word; 4]], j: usize) -> usize
+    requires { j ≤ length tree.now }
 {
-    let at = nodes + 4 * j;
-    let level = level_of(work, nodes, root, j);
-    let count = word(work, at);
-    let first = word(work, at + 2);
-    println!(rt; "  level {level} count {count} first {first}")
+    tree[..j]
+        .iter()
+        .enumerate()
+        .filter(|(i, words)| i.saturating_add(Node::read(*words).size) > j)
+        .count()
 }
 
-// Writes the nodes of a tree from its first, `root`, up to `end`.
-fn show_nodes(
-    rt: &impl Print,
-    work: &[Word],
-    nodes: usize,
-    root: usize,
-    end: usize,
-) -> io::Result<()>
-    requires { (nodes ≤ 65536) × (end ≤ 131072) }
-{
-    for j in root..end {
-        show_node(rt, work, nodes, root, j)?;
+// Writes the nodes of a tree: level, count and first frame.
+fn show_nodes(rt: &impl Print, tree: &[[Word; 4]]) -> io::Result<()> {
+    for (j, words) in tree.iter().enumerate() {
+        let level = level_of(tree, j);
+        let Node { count, first, .. } = Node::read(words);
+        println!(rt; "  level {level} count {count} first {first}")?;
     }
     Ok(())
 }
 
 // Writes the tree of cell c, if it has one, node by node.
 fn show_tree(rt: &impl Print, cells: &CoreCells, c: usize) -> io::Result<()>
-    requires { c < cells.now.k }
+    requires { c < cells.now.grid.k }
 {
-    let work = cells.work;
-    let n = cells.frames.n;
-    if core_cells::is_core_cell(work, n, c) {
-        let begin = word(work, TREES * n + c);
-        if begin > 1 {
-            let root = begin - 2;
-            let nodes = NODES * n;
-            let size = word(work, nodes + 4 * root + 1);
-            show_nodes(rt, work, nodes, root, root + size)?;
-        }
+    match nodes_of(cells, c) {
+        Some(tree) => show_nodes(rt, tree),
+        None => Ok(()),
     }
-    Ok(())
 }
 
 // Writes the frames of cell c.
 fn show_members(rt: &impl Print, cells: &CoreCells, c: usize) -> io::Result<()>
-    requires { c < cells.now.k }
+    requires { c < cells.now.grid.k }
 {
-    let work = cells.work;
-    let n = cells.frames.n;
-    let from = word(work, STARTS * n + c);
-    let to = cells_grid::cell_end(work, n, cells.k, c);
-    if to <= n {
-        show_words(rt, work, PLACES * n + from, PLACES * n + to)?;
+    for i in cells.grid.frames_of(c) {
+        print!(rt; " {i}")?;
     }
     Ok(())
 }
 
 // Writes cell c: its first frame, its frames, its list and its tree.
 fn show_cell(rt: &impl Print, cells: &CoreCells, c: usize) -> io::Result<()>
-    requires { c < cells.now.k }
+    requires { c < cells.now.grid.k }
 {
-    let n = cells.frames.n;
-    let first = word(cells.work, n + c);
+    let first = cells.grid.first_of(c);
     print!(rt; "cell {c}: first {first}, frames")?;
     show_members(rt, cells, c)?;
     print!(rt; ", list")?;
@@ -175,10 +132,10 @@ fn show_cell(rt: &impl Print, cells: &CoreCells, c: usize) -> io::Result<()>
 
 // Writes how many frames of each cell lie within the tolerance of frame i.
 fn show_in_range(rt: &impl Print, cells: &CoreCells, i: usize) -> io::Result<()>
-    requires { i < cells.now.frames.n }
+    requires { i < cells.now.grid.frames.n }
 {
-    for c in 0..cells.k {
-        let count = cells_grid::points_in_range(&cells.frames, cells.work, cells.k, i, c);
+    for c in 0..cells.grid.k {
+        let count = cells.grid.points_in_range(i, c);
         print!(rt; " {count}")?;
     }
     Ok(())
@@ -186,11 +143,11 @@ fn show_in_range(rt: &impl Print, cells: &CoreCells, i: usize) -> io::Result<()>
 
 // Writes the cells in whose trees frame i has a count that is not 0.
 fn show_counted(rt: &impl Print, cells: &CoreCells, i: usize) -> io::Result<()>
-    requires { i < cells.now.frames.n }
+    requires { i < cells.now.grid.frames.n }
 {
-    for c in 0..cells.k {
-        if lists::word(cells.work, TREES * cells.frames.n + c) > 1 {
-            if cells.tree_count(i, c).is_some() {
+    for c in 0..cells.grid.k {
+        if let Some(tree) = cells.tree_of(c) {
+            if tree_structure::approximate_range_counting(&cells.grid.frames, tree, i).is_some() {
                 print!(rt; " {c}")?;
             }
         }
@@ -200,11 +157,11 @@ fn show_counted(rt: &impl Print, cells: &CoreCells, i: usize) -> io::Result<()>
 
 // Writes frame i: its cell, whether it is core, how many frames of each cell lie within the tolerance, and the trees that count some.
 fn show_frame(rt: &impl Print, cells: &CoreCells, i: usize) -> io::Result<()>
-    requires { i < cells.now.frames.n }
+    requires { i < cells.now.grid.frames.n }
 {
-    let cell = word(cells.work, i);
+    let cell = cells.grid.cell_of(i);
     print!(rt; "frame {i}: cell {cell}")?;
-    if cells_grid::is_core(cells.work, cells.frames.n, i) {
+    if cells.is_core(i) {
         print!(rt; ", core")?;
     }
     print!(rt; ", in range")?;
@@ -216,10 +173,10 @@ fn show_frame(rt: &impl Print, cells: &CoreCells, i: usize) -> io::Result<()>
 
 // Writes every cell, then every frame.
 fn show_all(rt: &impl Print, cells: &CoreCells) -> io::Result<()> {
-    for c in 0..cells.k {
+    for c in 0..cells.grid.k {
         show_cell(rt, cells, c)?;
     }
-    for i in 0..cells.frames.n {
+    for i in 0..cells.grid.frames.n {
         show_frame(rt, cells, i)?;
     }
     Ok(())
@@ -238,6 +195,23 @@ fn prepare(frames: &Frames, work: &mut [Word]) -> usize
     k
 }
 
+// Writes all that the words of a prepared set hold.
+fn show_words(rt: &impl Print, frames: Frames, k: usize, work: &[Word]) -> io::Result<()>
+    requires { Grown (geometry frames) k work.now × (16 * frames.n ≤ length work.now) }
+{
+    let n = frames.n;
+    let grid = CellsGrid {
+        frames,
+        k,
+        work: &work[..(TREES + 1) * n],
+    };
+    let cells = CoreCells {
+        grid,
+        nodes: &work[NODES * n..],
+    };
+    show_all(rt, &cells)
+}
+
 // Writes why a set is refused.
 fn show_refusal(rt: &impl Print, refusal: Refusal) -> io::Result<()> {
     let number = u8::from(refusal);
@@ -252,12 +226,7 @@ fn show_run(rt: &impl Print, points: &[i16], p: Params, work: &mut [Word]) -> io
         Ok(v) => {
             let frames = Frames::new(points, v);
             let k = prepare(&frames, work);
-            let cells = CoreCells {
-                frames,
-                k,
-                work: &*work,
-            };
-            show_all(rt, &cells)
+            show_words(rt, frames, k, work)
         }
     }
 }

@@ -1,7 +1,6 @@
 -- Accepted settings are ready for a run, and the work words have room.
-use Rattle.std.proofs.Common.{length, sym}
+use Rattle.std.proofs.Common.{length, sym, arith}
 use Rattle.counting_tree.specs.Ready.{ready_of}
-use Rattle.core_cells.specs.HasTrees.{has_trees}
 use Rattle.detail.proofs.Preparing.{checked_room}
 use Rattle.detail.proofs.show_run.Goals as goal
 
@@ -11,5 +10,8 @@ new-frames-requires g c = ready_of c.args.p c.args.points.now _ _ _ (sym c.in-Ok
 pub prepare-k-requires : goal.prepare-k-requires
 prepare-k-requires g c = checked_room c.args.p c.args.points.now (length c.args.work.now) c.in-Ok.ensures c.new-frames.result c.new-frames.ensures.settings c.new-frames.ensures.count
 
-pub invariant_of-cells : goal.invariant_of-cells
-invariant_of-cells g c = record { has_trees = has_trees _ _ _ c.prepare-k.ensures }
+pub show_words-requires : goal.show_words-requires
+show_words-requires g c = (
+  c.prepare-k.ensures,
+  omega (arith, checked_room c.args.p c.args.points.now (length c.args.work.now) c.in-Ok.ensures c.new-frames.result c.new-frames.ensures.settings c.new-frames.ensures.count, c.prepare-k.auto.work),
+)

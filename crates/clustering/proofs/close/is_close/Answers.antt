@@ -1,40 +1,33 @@
 -- `is_close` meets its contract: cells whose first frames are core frames nearer than t touch.
-use native.Mathlib.Omega.{arith}
-use Rattle.clustering.proofs.Held.{room, few_cells}
-use Rattle.clustering.proofs.Closing.{frames_low, too_far, not_core, told}
-use mathlib.Core.Bool.{not}
-use mathlib.Core.Path.{ap}
-use Rattle.core_cells.specs.Held.{held}
+use mathlib.Core.Path.{refl, sym, ◌∙◌}
+use borrow.Author.Tests.{le-ltb}
+use Rattle.std.proofs.lemmas.Bool.{false≢true}
+use Rattle.lists.specs.ListLaws.{true_T}
+use Rattle.clustering.proofs.ByLists.{is_cell}
+use Rattle.clustering.proofs.Closing.{by_far, by_near, close_touch}
+use Rattle.clustering.proofs.close.is_close.Goals.{then-square_apart-frames, else-square_apart-frames}
 use Rattle.clustering.proofs.close.is_close.Goals as goal
 
-pub word-i-requires : goal.word-i-requires
-word-i-requires c = omega (arith, few_cells c.args.cells.now.frames.ready (held c.args.cells.now), room c.args.cells.now.frames.ready (held c.args.cells.now))
+pub returns-then-is_core-clause-value : goal.returns-then-is_core-clause-value
+returns-then-is_core-clause-value c = elim c.if-square_apart-frames.branch [
+  | then-square_apart-frames w ↦
+      by_near c.args.cells.now.grid.frames.ready c.args.c c.args.d c.first_of-i.ensures.value c.first_of-j.ensures.value c.square_apart.ensures.value w.if-square_apart-frames.true
+      (sym c.if-is_core.true ∙ w.value-is ∙ w.is_core.ensures) c.is_core-then-is_core.ensures
+  | else-square_apart-frames w ↦ absurd (false≢true (sym (le-ltb _ _ w.if-square_apart-frames.false) ∙ sym w.value-is ∙ c.if-is_core.true))
+]
 
-pub word-j-requires : goal.word-j-requires
-word-j-requires c = omega (arith, few_cells c.args.cells.now.frames.ready (held c.args.cells.now), room c.args.cells.now.frames.ready (held c.args.cells.now))
+pub returns-then-is_core-clause-touches : goal.returns-then-is_core-clause-touches
+returns-then-is_core-clause-touches c t =
+    close_touch c.args.cells.now.grid.frames.ready c.args.c c.args.d c.first_of-i.ensures.value c.first_of-j.ensures.value (is_cell c.args.cells.now.grid c.requires.0) (is_cell c.args.cells.now.grid c.requires.1)
+    (true_T (sym (returns-then-is_core-clause-value c) ∙ t)) c.square_apart.ensures.counts
 
-pub square_apart-requires : goal.square_apart-requires
-square_apart-requires c =
-    let l = frames_low c.args.cells.now.frames.ready (held c.args.cells.now) c.requires.0 c.requires.1 c.word-i.ensures c.word-j.ensures in
-    (l.0, l.1)
-
-pub returns-then-square_apart-cells : goal.returns-then-square_apart-cells
-returns-then-square_apart-cells c =
-    let z = too_far c.args.cells.now.frames.ready (held c.args.cells.now) c.requires.0 c.requires.1 c.word-i.ensures c.word-j.ensures c.square_apart.ensures.value (omega (arith, c.if-square_apart-cells.true)) in
-    record { value = z.0; touches = z.1 }
-
-pub is_core-requires : goal.is_core-requires
-is_core-requires c = ((frames_low c.args.cells.now.frames.ready (held c.args.cells.now) c.requires.0 c.requires.1 c.word-i.ensures c.word-j.ensures).0, room c.args.cells.now.frames.ready (held c.args.cells.now))
-
-pub returns-then-not-is_core : goal.returns-then-not-is_core
-returns-then-not-is_core c =
-    let z = not_core c.args.cells.now.frames.ready (held c.args.cells.now) c.requires.0 c.requires.1 c.word-i.ensures c.word-j.ensures c.square_apart.ensures.value (omega (arith, c.if-square_apart-cells.false)) c.is_core.ensures (ap not c.if-not-is_core.true) in
-    record { value = z.0; touches = z.1 }
-
-pub is_core-requires-2 : goal.is_core-requires-2
-is_core-requires-2 c = ((frames_low c.args.cells.now.frames.ready (held c.args.cells.now) c.requires.0 c.requires.1 c.word-i.ensures c.word-j.ensures).1, room c.args.cells.now.frames.ready (held c.args.cells.now))
-
-pub returns : goal.returns
-returns c =
-    let z = told c.args.cells.now.frames.ready (held c.args.cells.now) c.requires.0 c.requires.1 c.word-i.ensures c.word-j.ensures c.square_apart.ensures.value (omega (arith, c.if-square_apart-cells.false)) c.is_core.ensures (ap not c.if-not-is_core.false) c.square_apart.ensures.counts c.is_core-2.ensures in
-    record { value = z.0; touches = z.1 }
+pub returns-else-is_core-clause-value : goal.returns-else-is_core-clause-value
+returns-else-is_core-clause-value c = elim c.if-square_apart-frames.branch [
+  | then-square_apart-frames w ↦
+      c.if-is_core.false
+      ∙ by_near c.args.cells.now.grid.frames.ready c.args.c c.args.d c.first_of-i.ensures.value c.first_of-j.ensures.value c.square_apart.ensures.value w.if-square_apart-frames.true
+      (sym c.if-is_core.false ∙ w.value-is ∙ w.is_core.ensures) refl
+  | else-square_apart-frames w ↦
+      c.if-is_core.false
+      ∙ by_far c.args.cells.now.grid.frames.ready c.args.c c.args.d c.first_of-i.ensures.value c.first_of-j.ensures.value c.square_apart.ensures.value w.if-square_apart-frames.false
+]

@@ -3,4 +3,4 @@ use Rattle.clustering.proofs.Closing.{Turns}
 use Rattle.clustering.proofs.close.unite_close_cells.Given as goal
 
 abbrev pub invariant-loop-q : goal.invariant-loop-q
-invariant-loop-q l = Turns l.frames.v l.frames.n l.frames.points.now l.k l.initial.work l.work l.q
+invariant-loop-q l = Turns l.cells.core.grid l.sorted l.initial.leaders l.leaders l.q

@@ -1,23 +1,19 @@
--- `unite_listed_cells` meets its contract, by what the words are after each of its calls.
+-- `unite_listed_cells` meets its contract, by what the leaders are after each of its calls.
 use native.Mathlib.Omega.{arith}
-use Rattle.clustering.proofs.Phases.{can_reset, can_unite_close, can_unite_lists, flatten_met, lowest_met}
+use Rattle.clustering.proofs.Phases.{few_words, alone_leading, close_leading, can_flatten, lowest_met}
 use Rattle.clustering.proofs.listed.unite_listed_cells.Goals as goal
 
 pub reset-requires : goal.reset-requires
-reset-requires c = can_reset c.args.frames.now.ready c.requires.0 (omega (arith, c.requires.2))
+reset-requires c = omega (arith, few_words c.args.cells.now.core.grid, c.requires.0)
 
 pub unite_close_cells-requires : goal.unite_close_cells-requires
-unite_close_cells-requires c =
-    let z = can_unite_close c.args.frames.now.ready c.requires.0 (omega (arith, c.requires.2)) c.reset.ensures c.requires.1 c.requires.2 c.requires.3 in
-    record { ready = let t = z.0 in (t.1, t.2); n_in_bounds = z.1 }
+unite_close_cells-requires c = alone_leading c.args.cells.now.core.grid c.requires.0 c.reset.ensures
 
 pub unite_lists-requires : goal.unite_lists-requires
-unite_lists-requires c =
-    let z = can_unite_lists c.args.frames.now.ready c.requires.0 (omega (arith, c.requires.2)) c.reset.ensures c.requires.1 c.requires.2 c.requires.3 c.unite_close_cells.ensures in
-    record { ready = let t = z.0 in (t.1, t.2); n_in_bounds = z.1 }
+unite_lists-requires c = (close_leading c.args.cells.now.core.grid c.requires.0 c.reset.ensures c.unite_close_cells.ensures, c.requires.1, c.requires.2, c.requires.3)
 
 pub flatten-requires : goal.flatten-requires
-flatten-requires c = flatten_met c.args.frames.now.ready c.requires.0 (omega (arith, c.requires.2)) c.reset.ensures c.requires.1 c.requires.2 c.requires.3 c.unite_close_cells.ensures c.unite_lists.ensures.leaders c.unite_lists.ensures.others
+flatten-requires c = can_flatten c.args.cells.now.core.grid c.requires.0 c.reset.ensures c.unite_close_cells.ensures c.unite_lists.ensures
 
 pub returns : goal.returns
-returns c = lowest_met c.args.frames.now.ready c.requires.0 (omega (arith, c.requires.2)) c.reset.ensures c.requires.1 c.requires.2 c.requires.3 c.unite_close_cells.ensures c.unite_lists.ensures.leaders c.unite_lists.ensures.others c.flatten.ensures c.clear_words.ensures
+returns c = lowest_met c.args.cells.now.core.grid c.requires.0 c.reset.ensures c.unite_close_cells.ensures c.unite_lists.ensures c.flatten.ensures

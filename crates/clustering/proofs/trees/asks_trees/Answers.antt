@@ -1,6 +1,15 @@
 -- `asks_trees` meets its contract: each cell of the list is one of the cells.
-use Rattle.clustering.proofs.Asking.{listed_below}
+use mathlib.Core.Path.{sym, subst}
+use Prim.Native.Nat.{ℕ}
+use Rattle.std.proofs.Common.{rules}
+use Rattle.std.proofs.lemmas.Iterator.{YieldsList-from_slice}
+use Rattle.std.proofs.lemmas.Iterator.Adapters.{serves_from_places}
+use Rattle.lists.specs.Lists.{In}
+use Rattle.lists.specs.ListLaws.{at_in}
 use Rattle.clustering.proofs.trees.asks_trees.Goals as goal
 
-pub asks_tree-requires : goal.asks_tree-requires
-asks_tree-requires c = (c.requires.ready.0, listed_below c.args.cells.now.work.now c.args.cells.now.frames.n c.args.m c.requires.ready.1 c.requires.ready.2 c.requires.by_index c.loop-j.j c.loop-j-test.true c.word-d.ensures)
+pub any-requires-clause-callable : goal.any-requires-clause-callable
+any-requires-clause-callable c =
+    let ds = c.args.list.now in
+    serves_from_places (YieldsList-from_slice ds cc) (λ x q r. search rules)
+    (λ x k l e _ _ _ _ _ _ _. (c.requires.0, c.requires.1 x.now (subst (λ (d : ℕ). In d ds) (sym e) (at_in x.now ds k l))))

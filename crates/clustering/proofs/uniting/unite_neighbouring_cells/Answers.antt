@@ -1,22 +1,35 @@
--- `unite_neighbouring_cells` meets its contract, by what the words are after each of its calls.
-use Rattle.lists.specs.ListLaws.{length_numbers}
-use Rattle.clustering.proofs.Phases.{can_reset, room_first, grown_first, falling_first, progress, tried_stand, flatten_second, lowest_words}
+-- `unite_neighbouring_cells` meets its contract, by what the leaders are after each of its calls.
+use Rattle.std.proofs.Common.{arith}
+use Rattle.counting_tree.specs.Given.{geometry}
+use Rattle.cells_grid.proofs.Held as Grid
+use Rattle.clustering.proofs.ByTrials.{alone_leading, all_tried, tried_so_far, can_flatten, lowest_leaders}
 use Rattle.clustering.proofs.uniting.unite_neighbouring_cells.Goals as goal
 
 pub reset-requires : goal.reset-requires
-reset-requires c = can_reset c.args.frames.now.ready c.requires.0 c.requires.1
+reset-requires c = let s = c.args.cells.now.grid in omega (arith, Grid.few s, s.frames.ready.few)
 
-pub unite_pairs-p-requires : goal.unite_pairs-p-requires
-unite_pairs-p-requires c = record { ready = grown_first c.args.frames.now.ready c.requires.0 c.requires.1 c.reset.ensures; n_in_bounds = (room_first c.args.frames.now.ready c.requires.0 c.requires.1 c.reset.ensures, falling_first c.args.frames.now.ready c.requires.0 c.requires.1 c.reset.ensures) }
+pub unite_pairs-end-requires : goal.unite_pairs-end-requires
+unite_pairs-end-requires c =
+    let s = c.args.cells.now.grid in
+    alone_leading (geometry s.frames) s.arranged.count (omega (arith, Grid.few s, s.frames.ready.few)) c.requires c.reset.ensures
 
 pub flatten-requires : goal.flatten-requires
-flatten-requires c = flatten_second c.args.frames.now.ready c.requires.0 c.requires.1 _ c.reset.ensures (length_numbers _ _)
-    (tried_stand c.args.frames.now.ready c.requires.0 c.requires.1 c.reset.ensures _) c.unite_pairs-p.ensures.work
+flatten-requires c =
+    let s = c.args.cells.now.grid in
+    can_flatten (geometry s.frames) s.arranged.count (omega (arith, Grid.few s, s.frames.ready.few)) c.requires c.reset.ensures c.args.trials c.unite_pairs-end.ensures.leaders
 
-pub returns : goal.returns
-returns c = record {
-  progress = progress c.args.frames.now.ready c.requires.0 c.requires.1 c.reset.ensures _
-      c.unite_pairs-p.ensures.progress;
-  work = lowest_words c.args.frames.now.ready c.requires.0 c.requires.1 _ c.reset.ensures (length_numbers _ _) (tried_stand c.args.frames.now.ready c.requires.0 c.requires.1 c.reset.ensures _)
-      c.unite_pairs-p.ensures.work c.flatten.ensures;
-}
+pub returns-in-Ok : goal.returns-in-Ok
+returns-in-Ok c =
+    let s = c.args.cells.now.grid in
+    record {
+      progress = all_tried (geometry s.frames) s.arranged.count (omega (arith, Grid.few s, s.frames.ready.few)) c.requires c.reset.ensures c.args.trials c.unite_pairs-end.ensures.value c.in-Ok.is;
+      leaders = lowest_leaders (geometry s.frames) s.arranged.count (omega (arith, Grid.few s, s.frames.ready.few)) c.requires c.reset.ensures c.args.trials c.unite_pairs-end.ensures.leaders c.flatten.ensures;
+    }
+
+pub returns-in-Err : goal.returns-in-Err
+returns-in-Err c =
+    let s = c.args.cells.now.grid in
+    record {
+      progress = tried_so_far (geometry s.frames) s.arranged.count (omega (arith, Grid.few s, s.frames.ready.few)) c.requires c.reset.ensures c.args.trials c.unite_pairs-end.ensures.value c.in-Err.is;
+      leaders = lowest_leaders (geometry s.frames) s.arranged.count (omega (arith, Grid.few s, s.frames.ready.few)) c.requires c.reset.ensures c.args.trials c.unite_pairs-end.ensures.leaders c.flatten.ensures;
+    }
