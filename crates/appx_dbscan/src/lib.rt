@@ -76,8 +76,8 @@ fn copy_kinds(work: &[Word], n: usize, kinds: &mut [u8])
     requires { (10 * n ≤ length work.now) × (n ≤ length kinds.old) × Below 3 (part work.now (9 * n) n) }
     ensures { kinds.new ≡ over kinds.old 0 (part work.now (9 * n) n) }
 {
-    for (i, kind) in kinds[..n].iter_mut().enumerate() {
-        *kind = work[KINDS * n + i] as u8;
+    for (i, word) in work[KINDS * n..(KINDS + 1) * n].iter().enumerate() {
+        kinds[i] = *word as u8;
     }
 }
 

@@ -1,10 +1,10 @@
 -- Blocks in arrays: the counts of a frame as the program reads them, their edges, a row compared channel by channel, and the bucket of a block.
 use mathlib.Core.Path.{◌≡◌, refl, sym, ap, ap₂, ◌∙◌}
 use mathlib.Core.Logic.{inl, inr}
-use mathlib.Core.Bool.{Bool, true, false, not, ◌&&◌, and-true}
+use mathlib.Core.Bool.{Bool, true, ◌&&◌}
 use mathlib.Core.List.{List, [], ◌∷◌}
 use Prim.Native.Nat.{ℕ, zero, suc, ◌+◌, ◌-◌, ◌*◌, ◌/◌, ◌%◌, ◌^◌, ◌<◌, ◌≤◌}
-use native.Mathlib.Nat.{add_comm, sub-zero, div-one}
+use native.Mathlib.Nat.{sub-zero}
 use native.Mathlib.Omega.{arith}
 use lib.IntN.{ℤ, pos, negsuc, ◌+ℤ◌}
 use lib.Dec.{leb, ltb, eqb, leb→le, le→leb, ltb→lt, lt→ltb, eqb→eq}
@@ -17,12 +17,13 @@ use borrow.Author.Tests.{eq-eqb}
 use Rattle.lists.specs.Lists.{In, Below}
 use Rattle.lists.specs.Words.{over}
 use Rattle.lists.proofs.WordLaws.{over_length}
-use Rattle.lists.specs.ListLaws.{in_append, true_T, both_ways, not_turn, at_map}
+use Rattle.lists.specs.ListLaws.{in_append, true_T, both_ways, at_map}
 use Rattle.hyperparams.specs.declared.ValidParams.{ValidParams}
 use Rattle.counting_tree.specs.Frames.{Frame, frames_in}
-use Rattle.counting_tree.specs.FramesIn.{frame_at, frame_length}
+use Rattle.counting_tree.specs.FramesIn.{frame_length}
 use Rattle.counting_tree.specs.Geometry.{frame}
 use Rattle.counting_tree.specs.Domain.{Count, Counts}
+use Rattle.counting_tree.proofs.Counts.{read}
 use Rattle.counting_tree.specs.Ready.{Ready}
 use Rattle.blocks.specs.Blocks.{raise, edge, edges_of, key_of, shifted, second, own_block, same_nats, spread, row_hash, bucket_at, bucket_of}
 use Rattle.blocks.specs.BlockLaws.{raise_is, edge_le, edge_above, edge_is, edge_div, array_at, shifted_length, shifted_at, own_below}
@@ -31,10 +32,6 @@ use Rattle.blocks.specs.BlockLaws.{raise_is, edge_le, edge_above, edge_is, edge_
 -- raised, as the program has it
 pub raised_is : (c : ℤ) (x : ℕ) → SFits w16 c → pos x ≡ to_z w16 (of_z w16 c) +ℤ pos 32768 → x ≡ raise c
 raised_is c x f e = raise_is c x f.sfits (e ∙ ap (λ (z : ℤ). z +ℤ pos 32768) (to_z-of_z f))
-
--- the bits of a row's number
-pub bit_0 : (m : ℕ) → m % 2 ≡ m / 2 ^ 0 % 2
-bit_0 m = ap (λ (z : ℕ). z % 2) (sym (div-one m))
 
 module _ (w : ℕ) (p : 0 < w) (c : ℤ) {x : ℕ} (e : x ≡ raise c) where
   -- whether the count lies in the block that begins at `low`
@@ -77,6 +74,71 @@ module _ (w down : ℕ) where
     | inr j ↦ omega (arith, zeros (0 + length (edges_of w down f)) 4 x j)
   ]
 
+-- the keys of the channels from 1 on
+later : (w : ℕ) (f : Frame) → drop 1 (key_of w f) ≡ key_of w (drop 1 f)
+later w [] = refl
+later w (c ∷ f) = refl
+
+-- ---- a frame channel by channel, from channel k on
+module _ (w : ℕ) (es : List ℕ) (f : Frame) where
+  -- the row in which it lies itself
+  abbrev pub own_from : ℕ → ℕ
+  own_from k = own_block w (drop k es) (drop k f)
+
+  -- channel k before those from k + 1 on
+  pub own_next : (k : ℕ) {x r : ℕ} → 1 < k → k ≤ length es → k ≤ length f → Count (get_or f (k - 1) (pos 0)) → r ≡ own_from k → x ≡ second w (get_or es (k - 1) 0) (to_z w16 (of_z w16 (get_or f (k - 1) (pos 0)))) → 2 * r + x ≡ own_from (k - 1)
+  own_next k p h l b e q =
+      let d : suc (k - 1) ≡ k = omega arith in
+      let n = ap₂ (own_block w) (drop-cons es (k - 1) 0 (omega arith)) (drop-cons f (k - 1) (pos 0) (omega arith)) in
+      omega (arith, e, q, n, ap own_from d, ap (second w (get_or es (k - 1) 0)) (read (get_or f (k - 1) (pos 0)) b))
+
+  pub own_few : (k : ℕ) → own_from k < 2 ^ (length f - k)
+  own_few k = omega (arith, own_below w (drop k es) (drop k f), ap (λ (d : ℕ). 2 ^ d) (length-drop k f))
+
+  pub own_end : own_from (length f) ≡ 0
+  own_end = ap (own_block w (drop (length f) es)) (drop_of_length-le f (omega arith)) ∙ none (drop (length f) es)
+    where
+      none : (l : List ℕ) → own_block w l [] ≡ 0
+      none [] = refl
+      none (e ∷ l) = refl
+
+  -- compared with row m
+  module _ (m : ℕ) where
+    abbrev L : List ℕ
+    L = shifted w (take (length f - 1) (drop 1 es)) m
+
+    abbrev pub same_from : ℕ → Bool
+    same_from k = same_nats (drop k (key_of w f)) (drop k (0 ∷ shifted w (take (length f - 1) (drop 1 es)) m))
+
+    module _ (four : length f ≤ length es) (some : 0 < length f) where
+      low_long : length (0 ∷ L) ≡ length f
+      low_long = omega (arith, shifted_length w (take (length f - 1) (drop 1 es)) m, length-take-le (length f - 1) (drop 1 es) (omega (arith, length-drop 1 es)))
+
+      low_at : (k : ℕ) → 0 < k → k < length f → get_or (0 ∷ L) k 0 ≡ get_or es k 0 + w * (m / 2 ^ (k - 1) % 2)
+      low_at zero p h = absurd (omega arith)
+      low_at (suc k) p h =
+          let a : 1 + k ≡ suc k = omega arith in
+          let b : k ≡ suc k - 1 = omega arith in
+          shifted_at w (take (length f - 1) (drop 1 es)) m k (omega (arith, low_long, shifted_length w (take (length f - 1) (drop 1 es)) m))
+          ∙ ap (λ (x : ℕ). x + w * (m / 2 ^ k % 2)) (get_or-take (length f - 1) (drop 1 es) k 0 (omega arith) ∙ get_or-drop 1 es k 0)
+          ∙ ap₂ (λ (x y : ℕ). get_or es x 0 + w * (m / 2 ^ y % 2)) a b
+
+      pub same_next : (k : ℕ) {t : Bool} → 0 < k → k < length f → Count (get_or f k (pos 0)) → t ≡ eqb (edge w (raise (to_z w16 (of_z w16 (get_or f k (pos 0)))))) (get_or es k 0 + w * (m / 2 ^ (k - 1) % 2)) → same_from k ≡ t && same_from (k + 1)
+      same_next k {t} p h b q =
+          let d : suc k ≡ k + 1 = omega arith in
+          ap₂ same_nats (drop-cons (key_of w f) k 0 (omega (arith, h, length-map f (λ c. edge w (raise c))))) (drop-cons (0 ∷ L) k 0 (omega (arith, h, low_long)))
+          ∙ ap₂ (λ (x y : ℕ). eqb x y && same_from (suc k)) (at_map (λ c. edge w (raise c)) (pos 0) 0 f k h ∙ ap (λ (z : ℤ). edge w (raise z)) (sym (read (get_or f k (pos 0)) b))) (low_at k p h)
+          ∙ ap₂ (λ (t : Bool) (j : ℕ). t && same_from j) (sym q) d
+
+      pub all_same : (k : ℕ) → length f ≤ k → true ≡ same_from k
+      all_same k h =
+          let a : length (key_of w f) ≤ k = omega (arith, h, length-map f (λ c. edge w (raise c))) in
+          let b : length (0 ∷ L) ≤ k = omega (arith, h, low_long) in
+          ap₂ same_nats (sym (drop_of_length-le (key_of w f) a)) (sym (drop_of_length-le (0 ∷ L) b))
+
+    pub same_first : same_from 1 ≡ same_nats (key_of w (drop 1 f)) (shifted w (take (length f - 1) (drop 1 es)) m)
+    same_first = ap (λ (l : List ℕ). same_nats l L) (later w f)
+
 -- ---- the counts of a frame
 module _ {ps : List ℤ} {v : ValidParams} {n : ℕ} (r : Ready ps v n) (i : ℕ) (h : i < n) where
   abbrev F : Frame
@@ -84,13 +146,6 @@ module _ {ps : List ℤ} {v : ValidParams} {n : ℕ} (r : Ready ps v n) (i : ℕ
 
   pub long : length (frame v (frames_in n v.channels ps) i) ≡ v.channels
   long = frame_length n v.channels ps i r.room h
-
-  count_at_lem : (k p : ℕ) → k < v.channels → p ≡ i * v.channels + k → get_or F k (pos 0) ≡ get_or ps p (pos 0)
-  count_at_lem k p l e =
-      ap (λ (z : Frame). get_or z k (pos 0)) (frame_at n v.channels ps i h)
-      ∙ get_or-take v.channels (drop (i * v.channels) ps) k (pos 0) l
-      ∙ get_or-drop (i * v.channels) ps k (pos 0)
-      ∙ ap (λ (z : ℕ). get_or ps z (pos 0)) (sym e)
 
   -- its edges
   module _ (w down : ℕ) where
@@ -100,78 +155,6 @@ module _ {ps : List ℤ} {v : ValidParams} {n : ℕ} (r : Ready ps v n) (i : ℕ
     -- in an array of four
     pub row_long : length (over (replicate 4 0) 0 (edges_of w down (frame v (frames_in n v.channels ps) i))) ≡ 4
     row_long = over_length (replicate 4 0) 0 (edges_of w down F) (omega (arith, edges_long, r.settings.scale.most))
-
-  -- compared with a row, from channel k + 1 on
-  module _ (w m : ℕ) (first : List ℕ) (four : length first ≡ 4) where
-    abbrev L : List ℕ
-    L = shifted w (take (v.channels - 1) (drop 1 first)) m
-
-    abbrev G : List ℕ
-    G = key_of w (drop 1 F)
-
-    abbrev pub same_from : ℕ → Bool
-    same_from k = same_nats (drop k (key_of w (drop 1 (frame v (frames_in n v.channels ps) i)))) (drop k (shifted w (take (v.channels - 1) (drop 1 first)) m))
-
-    key_long : length G ≡ v.channels - 1
-    key_long = length-map (drop 1 F) (λ c. edge w (raise c)) ∙ length-drop 1 F ∙ ap (λ (z : ℕ). z - 1) long
-
-    low_long : length L ≡ v.channels - 1
-    low_long = shifted_length w (take (v.channels - 1) (drop 1 first)) m ∙ length-take-le (v.channels - 1) (drop 1 first) (omega (arith, length-drop 1 first, r.settings.scale.most))
-
-    pub all_same : (k : ℕ) → v.channels ≤ k + 1 → true ≡ same_from k
-    all_same k h =
-        let a : length G ≤ k = omega (arith, key_long) in
-        let b : length L ≤ k = omega (arith, low_long) in
-        ap₂ same_nats (sym (drop_of_length-le G a)) (sym (drop_of_length-le L b))
-
-    module _ (k p bit : ℕ) (l : k + 1 < v.channels) (e : p ≡ i * v.channels + (k + 1)) (f : SFits w16 (get_or ps p (pos 0))) (b : bit ≡ m / 2 ^ k % 2)
-        (t : Bool) (q : t ≡ eqb (edge w (raise (to_z w16 (of_z w16 (get_or ps p (pos 0)))))) (get_or first (k + 1) 0 + w * bit)) where
-      key_at : get_or G k 0 ≡ edge w (raise (to_z w16 (of_z w16 (get_or ps p (pos 0)))))
-      key_at = at_map (λ c. edge w (raise c)) (pos 0) 0 (drop 1 F) k (omega (arith, length-drop 1 F, long))
-          ∙ ap (λ (z : ℤ). edge w (raise z)) (get_or-drop 1 F k (pos 0) ∙ ap (λ (z : ℕ). get_or F z (pos 0)) (add_comm 1 k) ∙ count_at_lem (k + 1) p l e ∙ sym (to_z-of_z f))
-
-      low_at : get_or L k 0 ≡ get_or first (k + 1) 0 + w * bit
-      low_at =
-          shifted_at w (take (v.channels - 1) (drop 1 first)) m k (omega (arith, low_long, shifted_length w (take (v.channels - 1) (drop 1 first)) m))
-          ∙ ap₂ (λ (x y : ℕ). x + w * y) (get_or-take (v.channels - 1) (drop 1 first) k 0 (omega arith) ∙ get_or-drop 1 first k 0 ∙ ap (λ (z : ℕ). get_or first z 0) (add_comm 1 k)) (sym b)
-
-      split : same_from k ≡ t && same_from (suc k)
-      split =
-          ap₂ same_nats (drop-cons G k 0 (omega (arith, key_long))) (drop-cons L k 0 (omega (arith, low_long)))
-          ∙ ap₂ (λ (x y : ℕ). eqb x y && same_from (suc k)) key_at low_at
-          ∙ ap (λ (b : Bool). b && same_from (suc k)) (sym q)
-
-      pub same_next : not t ≡ false → same_from (suc k) ≡ same_from k
-      same_next h = sym (split ∙ ap (λ (b : Bool). b && same_from (suc k)) (not_turn t false h))
-
-      pub same_stop : not t ≡ true → false ≡ same_from k
-      same_stop h = sym (split ∙ ap (λ (b : Bool). b && same_from (suc k)) (not_turn t true h))
-
-      pub same_last : v.channels ≤ k + 2 → t ≡ same_from k
-      same_last h = sym (split ∙ ap (λ (b : Bool). t && b) (sym (all_same (suc k) (omega arith))) ∙ and-true t)
-
-  -- the row in which it lies itself, from channel k + 1 on
-  module _ (w : ℕ) (es : List ℕ) (four : length es ≡ 4) where
-    abbrev pub own_from : ℕ → ℕ
-    own_from k = own_block w (drop k (drop 1 es)) (drop k (drop 1 (frame v (frames_in n v.channels ps) i)))
-
-    pub own_next : (k p x : ℕ) → k + 1 < v.channels → p ≡ i * v.channels + (k + 1) → SFits w16 (get_or ps p (pos 0)) → x ≡ second w (get_or es (k + 1) 0) (to_z w16 (of_z w16 (get_or ps p (pos 0)))) → own_from k ≡ x + 2 * own_from (suc k)
-    own_next k p x l e f q =
-        ap₂ (own_block w) (drop-cons (drop 1 es) k 0 (omega (arith, length-drop 1 es, r.settings.scale.most))) (drop-cons (drop 1 F) k (pos 0) (omega (arith, length-drop 1 F, long)))
-        ∙ ap₂ (λ (y : ℕ) (z : ℤ). second w y z + 2 * own_from (suc k)) (get_or-drop 1 es k 0 ∙ ap (λ (z : ℕ). get_or es z 0) (add_comm 1 k)) (get_or-drop 1 F k (pos 0) ∙ ap (λ (z : ℕ). get_or F z (pos 0)) (add_comm 1 k) ∙ count_at_lem (k + 1) p l e ∙ sym (to_z-of_z f))
-        ∙ ap (λ (y : ℕ). y + 2 * own_from (suc k)) (sym q)
-
-    pub own_end : (k : ℕ) → v.channels ≤ k + 1 → own_from k ≡ 0
-    own_end k h =
-        let a : length (drop 1 F) ≤ k = omega (arith, length-drop 1 F, long) in
-        ap (own_block w (drop k (drop 1 es))) (drop_of_length-le (drop 1 F) a) ∙ none (drop k (drop 1 es))
-      where
-        none : (l : List ℕ) → own_block w l [] ≡ 0
-        none [] = refl
-        none (e ∷ l) = refl
-
-    pub own_is : {b : ℕ} → b ≡ own_from 0 → (b ≡ own_block w (drop 1 es) (drop 1 (frame v (frames_in n v.channels ps) i))) × (b < 2 ^ (v.channels - 1))
-    own_is e = (e, omega (arith, e, own_below w (drop 1 es) (drop 1 F), ap (λ (d : ℕ). 2 ^ d) (length-drop 1 F ∙ ap (λ (z : ℕ). z - 1) long)))
 
   -- ---- the bucket of its block
   module _ (w size : ℕ) {low : List ℕ} {x : ℕ} (e : low ≡ over (replicate 4 0) 0 (edges_of w 0 (frame v (frames_in n v.channels ps) i))) (q : x ≡ row_hash (drop 1 low)) (p : 0 < w) where
@@ -187,12 +170,8 @@ module _ {ps : List ℤ} {v : ValidParams} {n : ℕ} (r : Ready ps v n) (i : ℕ
     unfolding row_hash
     key_hash = q ∙ ap₂ (λ (x : ℕ) (y : ℕ). x + y) (ap₂ (λ (x y : ℕ). spread (x + 1) + spread (y + 65537)) (at 0) (at 1)) (ap (λ (x : ℕ). spread (x + 131073)) (at 2))
       where
-        later : (f : Frame) → drop 1 (key_of w f) ≡ key_of w (drop 1 f)
-        later [] = refl
-        later (c ∷ f) = refl
-
         at : (k : ℕ) → get_or (drop 1 low) k 0 ≡ get_or (key_of w (drop 1 F)) k 0
-        at k = get_or-drop 1 low k 0 ∙ edges_get (1 + k) ∙ sym (get_or-drop 1 (key_of w F) k 0) ∙ ap (λ (l : List ℕ). get_or l k 0) (later F)
+        at k = get_or-drop 1 low k 0 ∙ edges_get (1 + k) ∙ sym (get_or-drop 1 (key_of w F) k 0) ∙ ap (λ (l : List ℕ). get_or l k 0) (later w F)
 
     pub key_bucket : {b : ℕ} → b ≡ bucket_at size x (get_or low 0 0 / w) → b ≡ bucket_of w size (frame v (frames_in n v.channels ps) i)
     unfolding bucket_of

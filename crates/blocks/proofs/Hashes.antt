@@ -1,11 +1,16 @@
 -- The hash of a row from its parts, and those of all rows around a frame.
-use mathlib.Core.Path.{◌≡◌, ap, ap₂, ◌∙◌}
-use mathlib.Core.Logic.{inl, inr}
-use mathlib.Core.List.{List, [], ◌∷◌}
-use Prim.Native.Nat.{ℕ, ◌+◌, ◌*◌, ◌<◌}
+use mathlib.Core.Path.{◌≡◌, sym, ap, ap₂, ◌∙◌}
+use mathlib.Core.List.{List, [], ◌∷◌, ◌++◌}
+use Prim.Native.Nat.{ℕ, ◌+◌, ◌*◌, ◌/◌, ◌%◌, ◌<◌}
+use native.Mathlib.Nat.{mod-lt}
 use native.Mathlib.Omega.{arith}
-use lib.ListN.{length, get_or, drop}
-use Rattle.lists.specs.Lists.{Below}
+use lib.ListN.{length, get_or, take, drop, set, length-set}
+use Rattle.lists.specs.Lists.{numbers, Below}
+use Rattle.std.proofs.lemmas.List.{take_more_set}
+use Rattle.lists.specs.Buckets.{hashes}
+use Rattle.lists.specs.ListLaws.{at_numbers, in_map}
+use Rattle.lists.specs.OrderLaws.{below_at}
+use Rattle.lists.proofs.PartLaws.{column_snoc}
 use Rattle.lists.specs.Words.{column}
 use Rattle.blocks.specs.Blocks.{shifted, spread, row_hash}
 
@@ -15,47 +20,38 @@ unfolding row_hash
 hash_is [] p q r = ap₂ ◌+◌ (ap₂ ◌+◌ p q) r
 hash_is (x ∷ l) p q r = ap₂ ◌+◌ (ap₂ ◌+◌ p q) r
 
-module _ (w e₁ e₂ e₃ : ℕ) {a b c d e f : ℕ}
-    (pa : a ≡ spread (e₁ + 1)) (pb : b ≡ spread (e₁ + w + 1)) (pc : c ≡ spread (e₂ + 65537)) (pd : d ≡ spread (e₂ + w + 65537)) (pe : e ≡ spread (e₃ + 131073)) (pf : f ≡ spread (e₃ + w + 131073)) where
-  -- a row by its three bits
-  row_of : (x y z i j k : ℕ) → x ≡ spread (e₁ + w * i + 1) → y ≡ spread (e₂ + w * j + 65537) → z ≡ spread (e₃ + w * k + 131073) → x + y + z ≡ row_hash ((e₁ + w * i) ∷ (e₂ + w * j) ∷ (e₃ + w * k) ∷ [])
-  unfolding row_hash
-  row_of x y z i j k p q r = ap₂ ◌+◌ (ap₂ ◌+◌ p q) r
+-- a channel's part of a row, by the row's bit
+part_at : (w e s b : ℕ) {xs : List ℕ} → xs ≡ column (λ b. spread (e + w * b + s)) 2 → b < 2 → get_or xs b 0 ≡ spread (e + w * b + s)
+part_at w e s b q h = ap (λ (l : List ℕ). get_or l b 0) q ∙ at_numbers (λ b. spread (e + w * b + s)) 0 2 b h
 
-  low : (e s : ℕ) {x : ℕ} → x ≡ spread (e + s) → x ≡ spread (e + w * 0 + s)
-  low e s p = let q : e + s ≡ e + w * 0 + s = omega arith in p ∙ ap spread q
+-- row m of an array of four
+pub row_is : (w : ℕ) (l : List ℕ) → length l ≡ 4 → {a b c : List ℕ} → a ≡ column (λ b. spread (get_or l 1 0 + w * b + 1)) 2 → b ≡ column (λ b. spread (get_or l 2 0 + w * b + 65537)) 2 → c ≡ column (λ b. spread (get_or l 3 0 + w * b + 131073)) 2
+    → (m : ℕ) → get_or a (m % 2) 0 + get_or b (m / 2 % 2) 0 + get_or c (m / 4 % 2) 0 ≡ row_hash (shifted w (drop 1 l) m)
+unfolding row_hash
+row_is w [] h p q r m = absurd (omega arith)
+row_is w (x ∷ []) h p q r m = absurd (omega arith)
+row_is w (x ∷ e₁ ∷ []) h p q r m = absurd (omega arith)
+row_is w (x ∷ e₁ ∷ e₂ ∷ []) h p q r m = absurd (omega arith)
+row_is w (x ∷ e₁ ∷ e₂ ∷ e₃ ∷ []) h p q r m =
+    let d : m / 4 ≡ m / 2 / 2 = omega arith in
+    ap₂ ◌+◌ (ap₂ ◌+◌ (part_at w e₁ 1 (m % 2) p (mod-lt m (omega arith))) (part_at w e₂ 65537 (m / 2 % 2) q (mod-lt (m / 2) (omega arith)))) (part_at w e₃ 131073 (m / 4 % 2) r (mod-lt (m / 4) (omega arith)) ∙ ap (λ (k : ℕ). spread (e₃ + w * (k % 2) + 131073)) d)
+row_is w (x ∷ e₁ ∷ e₂ ∷ e₃ ∷ y ∷ l) h p q r m = absurd (omega arith)
 
-  high : (e s : ℕ) {x : ℕ} → x ≡ spread (e + w + s) → x ≡ spread (e + w * 1 + s)
-  high e s p = let q : e + w + s ≡ e + w * 1 + s = omega arith in p ∙ ap spread q
+-- the next row after those that are worked out
+pub row_next : (h : ℕ → ℕ) (xs : List ℕ) (m : ℕ) {y n : ℕ} → m < n → (length xs ≡ n) × (take m xs ≡ column h m) → y ≡ h m → (length (set xs m y) ≡ n) × (take (m + 1) (set xs m y) ≡ column h (m + 1))
+row_next h xs m {y} b (l, e) q = (length-set xs m y ∙ l, take_more_set xs m y (omega (arith, l)) ∙ ap₂ (λ (ys : List ℕ) (z : ℕ). ys ++ (z ∷ [])) e q ∙ sym (column_snoc h m))
 
-  pub all_rows : ◌≡◌ {A = List ℕ} ((a + c + e) ∷ (b + c + e) ∷ (a + d + e) ∷ (b + d + e) ∷ (a + c + f) ∷ (b + c + f) ∷ (a + d + f) ∷ (b + d + f) ∷ []) (column (λ m. row_hash (shifted w (e₁ ∷ e₂ ∷ e₃ ∷ []) m)) 8)
-  all_rows =
-      ap₂ ◌∷◌ (row_of a c e 0 0 0 (low e₁ 1 pa) (low e₂ 65537 pc) (low e₃ 131073 pe))
-      (ap₂ ◌∷◌ (row_of b c e 1 0 0 (high e₁ 1 pb) (low e₂ 65537 pc) (low e₃ 131073 pe))
-      (ap₂ ◌∷◌ (row_of a d e 0 1 0 (low e₁ 1 pa) (high e₂ 65537 pd) (low e₃ 131073 pe))
-      (ap₂ ◌∷◌ (row_of b d e 1 1 0 (high e₁ 1 pb) (high e₂ 65537 pd) (low e₃ 131073 pe))
-      (ap₂ ◌∷◌ (row_of a c f 0 0 1 (low e₁ 1 pa) (low e₂ 65537 pc) (high e₃ 131073 pf))
-      (ap₂ ◌∷◌ (row_of b c f 1 0 1 (high e₁ 1 pb) (low e₂ 65537 pc) (high e₃ 131073 pf))
-      (ap₂ ◌∷◌ (row_of a d f 0 1 1 (low e₁ 1 pa) (high e₂ 65537 pd) (high e₃ 131073 pf))
-      (ap (λ (x : ℕ). x ∷ []) (row_of b d f 1 1 1 (high e₁ 1 pb) (high e₂ 65537 pd) (high e₃ 131073 pf)))))))))
+-- a part's place
+pub part_small : (xs : List ℕ) (m : ℕ) → length xs ≡ 2 → Below hashes xs → get_or xs (m % 2) 0 < hashes
+part_small xs m l b = below_at hashes xs (m % 2) b (omega (arith, l, mod-lt m {m = 2} (omega arith)))
 
--- the same of an array of four
-pub rows_of : (w : ℕ) (l : List ℕ) → length l ≡ 4 → {a b c d e f : ℕ} → a ≡ spread (get_or l 1 0 + 1) → b ≡ spread (get_or l 1 0 + w + 1) → c ≡ spread (get_or l 2 0 + 65537) → d ≡ spread (get_or l 2 0 + w + 65537) → e ≡ spread (get_or l 3 0 + 131073) → f ≡ spread (get_or l 3 0 + w + 131073)
-    → ◌≡◌ {A = List ℕ} ((a + c + e) ∷ (b + c + e) ∷ (a + d + e) ∷ (b + d + e) ∷ (a + c + f) ∷ (b + c + f) ∷ (a + d + f) ∷ (b + d + f) ∷ []) (column (λ m. row_hash (shifted w (drop 1 l) m)) 8)
-rows_of w [] h p q r s t u = absurd (omega arith)
-rows_of w (x ∷ []) h p q r s t u = absurd (omega arith)
-rows_of w (x ∷ e₁ ∷ []) h p q r s t u = absurd (omega arith)
-rows_of w (x ∷ e₁ ∷ e₂ ∷ []) h p q r s t u = absurd (omega arith)
-rows_of w (x ∷ e₁ ∷ e₂ ∷ e₃ ∷ []) h p q r s t u = all_rows w e₁ e₂ e₃ p q r s t u
-rows_of w (x ∷ e₁ ∷ e₂ ∷ e₃ ∷ y ∷ l) h p q r s t u = absurd (omega arith)
+spread_below : (x : ℕ) → spread x < hashes
+unfolding spread
+spread_below x = mod-lt _ (omega arith)
 
-pub rows_below : {h a b c d e f : ℕ} → a < h → b < h → c < h → d < h → e < h → f < h → Below (3 * h) ((a + c + e) ∷ (b + c + e) ∷ (a + d + e) ∷ (b + d + e) ∷ (a + c + f) ∷ (b + c + f) ∷ (a + d + f) ∷ (b + d + f) ∷ [])
-rows_below p q r s t u x (inl e) = omega arith
-rows_below p q r s t u x (inr (inl e)) = omega arith
-rows_below p q r s t u x (inr (inr (inl e))) = omega arith
-rows_below p q r s t u x (inr (inr (inr (inl e)))) = omega arith
-rows_below p q r s t u x (inr (inr (inr (inr (inl e))))) = omega arith
-rows_below p q r s t u x (inr (inr (inr (inr (inr (inl e)))))) = omega arith
-rows_below p q r s t u x (inr (inr (inr (inr (inr (inr (inl e))))))) = omega arith
-rows_below p q r s t u x (inr (inr (inr (inr (inr (inr (inr (inl e)))))))) = omega arith
-rows_below p q r s t u x (inr (inr (inr (inr (inr (inr (inr (inr e)))))))) = absurd e
+pub rows_below : (f : ℕ → List ℕ) (n : ℕ) → Below (3 * hashes) (column (λ m. row_hash (f m)) n)
+unfolding row_hash
+rows_below f n x i =
+    let y = in_map (λ m. row_hash (f m)) x (numbers n) i in
+    let es = f y.0 in
+    omega (arith, y.2, spread_below (get_or es 0 0 + 1), spread_below (get_or es 1 0 + 65537), spread_below (get_or es 2 0 + 131073))

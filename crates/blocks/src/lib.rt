@@ -76,28 +76,29 @@ fn hash_of(low: [u64; 4]) -> u64
     spread(low[1] + 1) + spread(low[2] + 65537) + spread(low[3] + 131073)
 }
 
+// What a channel adds to the hash of a row that begins there at `low`, and of one that begins `width` later.
+fn parts(low: u64, width: u64, offset: u64) -> [u64; 2]
+    requires { (low < 65536) × (width < 2 ^ 19) × (offset < 2 ^ 18) }
+    ensures value { result ≡ column (λ b. Definitions.spread (low + width * b + offset)) 2 }
+    ensures below { Below hashes result }
+{
+    [spread(low + offset), spread(low + width + offset)]
+}
+
 // The hashes of the rows that begin at `first` or, in the channels from 1 on whose bit of the row's number is set, `width` later.
 pub fn row_hashes(first: [u64; 4], width: u64) -> [u64; 8]
     requires { Below 65536 first × (width < 2 ^ 19) }
     ensures value { result ≡ column (λ m. row_hash (shifted width (drop 1 first) m)) 8 }
     ensures below { Below (3 * hashes) result }
 {
-    let a = spread(first[1] + 1);
-    let b = spread(first[1] + width + 1);
-    let c = spread(first[2] + 65537);
-    let d = spread(first[2] + width + 65537);
-    let e = spread(first[3] + 131073);
-    let f = spread(first[3] + width + 131073);
-    [
-        a + c + e,
-        b + c + e,
-        a + d + e,
-        b + d + e,
-        a + c + f,
-        b + c + f,
-        a + d + f,
-        b + d + f,
-    ]
+    let one = parts(first[1], width, 1);
+    let two = parts(first[2], width, 65537);
+    let three = parts(first[3], width, 131073);
+    let mut hashes = [0; 8];
+    for m in 0..8 {
+        hashes[m] = one[m % 2] + two[m / 2 % 2] + three[m / 4 % 2];
+    }
+    hashes
 }
 
 // Which of `size` buckets the block with the number `along` in a row with the hash h has.
@@ -107,10 +108,8 @@ pub fn bucket(h: u64, along: usize, size: usize) -> usize
     ensures upper_bound { result < size }
 {
     let b = lists::buckets::bucket(h % 4294967296, size) + along;
-    if b < size {
-        return b;
-    }
-    b % size
+    // mostly smaller, and a division is slow
+    if b < size { b } else { b % size }
 }
 
 // The bucket of frame j's block.
@@ -149,19 +148,12 @@ pub fn own_row(frames: &Frames, width: u64, first: [u64; 4], i: usize) -> usize
     ensures value { result ≡ own_block width (drop 1 first) (drop 1 (frame_of frames.now i)) }
     ensures upper_bound { result < 2 ^ (frames.now.v.channels - 1) }
 {
-    if frames.v.channels == 1 {
-        return 0;
+    let frame = frames.frame(i);
+    let mut row = 0;
+    for k in (1..frames.v.channels).rev() {
+        row = 2 * row + second(frame[k], width, first[k]);
     }
-    let start = i * frames.v.channels;
-    let one = second(frames.points[start + 1], width, first[1]);
-    if frames.v.channels == 2 {
-        return one;
-    }
-    let two = one + 2 * second(frames.points[start + 2], width, first[2]);
-    if frames.v.channels == 3 {
-        return two;
-    }
-    two + 4 * second(frames.points[start + 3], width, first[3])
+    row
 }
 
 // Whether a raised count lies in the block that begins at `low`, or where `bit` is 1 `width` later.
@@ -179,23 +171,13 @@ pub fn in_row(frames: &Frames, width: u64, first: [u64; 4], m: usize, j: usize) 
     requires { (j < frames.now.n) × (0 < width) × (width < 2 ^ 19) × Below 65536 first × ((q : ℕ) → q < frames.now.v.channels → get_or first q 0 % width ≡ 0) }
     ensures { result ≡ same_nats (key_of width (drop 1 (frame_of frames.now j))) (shifted width (take (frames.now.v.channels - 1) (drop 1 first)) m) }
 {
-    if frames.v.channels == 1 {
-        return true;
+    let frame = frames.frame(j);
+    for k in 1..frames.v.channels {
+        if !holds(frame[k], first[k], width, (m >> (k - 1)) % 2) {
+            return false;
+        }
     }
-    let start = j * frames.v.channels;
-    if !holds(frames.points[start + 1], first[1], width, m % 2) {
-        return false;
-    }
-    if frames.v.channels == 2 {
-        return true;
-    }
-    if !holds(frames.points[start + 2], first[2], width, m / 2 % 2) {
-        return false;
-    }
-    if frames.v.channels == 3 {
-        return true;
-    }
-    holds(frames.points[start + 3], first[3], width, m / 4 % 2)
+    true
 }
 
 // Row m after row `start` of so many: after the last comes row 0.
@@ -205,10 +187,7 @@ pub fn turned(start: usize, m: usize, rows: usize) -> usize
     ensures upper_bound { result < rows }
 {
     let b = start + m;
-    if b < rows {
-        return b;
-    }
-    b - rows
+    if b < rows { b } else { b - rows }
 }
 
 // The numbers of bucket b of `size`, and those of the next: after the last comes bucket 0.

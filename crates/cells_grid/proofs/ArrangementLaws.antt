@@ -18,6 +18,7 @@ use Rattle.lists.specs.CountLaws.{keep_map, parts_length, total_append, length_c
 use Rattle.lists.specs.OrderLaws.{at_rank, kept_le}
 use Rattle.lists.proofs.WordLaws.{over_length}
 use Rattle.lists.proofs.PartLaws.{part_part, part_under, part_same, part_at, part_below, holds_at, holds_at_0}
+use Rattle.lists.proofs.Parts.{part_front_of}
 use Rattle.lists.proofs.Within.{Within, within_self, within_over}
 use Rattle.lists.specs.Sorting.{numbered, size_of, start_of, places_of}
 use Rattle.lists.proofs.SortLaws as Sorting
@@ -217,6 +218,16 @@ module _ (g : Geometry) (L : Lawful g) {k : ℕ} {w : List ℕ} (A : Arranged g 
   place_below p h = part_below n w (3 * n) n p (λ x i. omega (arith, arranged_below g L x (subst (In x) laid i))) (omega (arith, words_room)) h
 
 module _ (g : Geometry) where
+  -- the first m words have all of it
+  pub arranged_front : {k : ℕ} {w : List ℕ} (m : ℕ) → 4 * g.frames ≤ m → Arranged g k w → Arranged g k (take m w)
+  arranged_front {k} {w} m h A = record {
+    count = A.count;
+    numbers = part_front_of w m 0 g.frames (omega arith) ∙ A.numbers;
+    firsts = part_front_of w m g.frames k (omega (arith, A.count, cells_le g)) ∙ A.firsts;
+    starts = part_front_of w m (2 * g.frames) k (omega (arith, A.count, cells_le g)) ∙ A.starts;
+    places = part_front_of w m (3 * g.frames) g.frames (omega arith) ∙ A.places;
+  }
+
   -- words laid above keep it
   pub arranged_over : {k : ℕ} {w : List ℕ} (b : ℕ) (ws : List ℕ) → 4 * g.frames ≤ b → b ≤ length w → Arranged g k w → Arranged g k (over w b ws)
   arranged_over {k} {w} b ws h l A = record {

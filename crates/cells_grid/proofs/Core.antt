@@ -2,19 +2,22 @@
 use mathlib.Core.Path.{◌≡◌, refl, sym, ap, ap₂, subst, ◌∙◌}
 use mathlib.Core.Logic.{inl, inr}
 use mathlib.Core.Bool.{Bool, true, false, not, cond}
-use mathlib.Core.List.{List}
+use mathlib.Core.List.{List, ◌++◌}
 use Prim.Native.Nat.{ℕ, ◌+◌, ◌-◌, ◌*◌, ◌<◌, ◌≤◌}
 use native.Mathlib.Nat.{le_refl}
 use native.Mathlib.Omega.{arith}
 use mir.Val.{bool_byte}
 use lib.IntN.{ℤ}
 use lib.Dec.{T, leb}
-use lib.ListN.{length, get_or, replicate}
-use Rattle.lists.specs.Lists.{numbers, any, how_many}
+use lib.ListN.{length, get_or, take, drop, replicate, length-append, length-replicate}
+use Rattle.std.proofs.Common.{append_assoc, drop-drop, drop_at, length-drop, length-take-le, take-append-drop}
+use Rattle.lists.specs.Lists.{numbers, any, how_many, Below}
 use Rattle.lists.specs.ListLaws.{T_true, T_or_not, not_turn, any_in, map_same, numbers_in, in_numbers, length_numbers}
 use Rattle.lists.specs.Words.{over, column, Clear, Apart}
 use Rattle.lists.proofs.WordLaws.{over_length, over_all}
-use Rattle.lists.proofs.PartLaws.{column_replicate, get_above, clear_before, clear_after, clear_within}
+use Rattle.lists.proofs.PartLaws.{column_replicate, get_above, clear_part, clear_before, clear_after, clear_within}
+use Rattle.lists.proofs.Parts.{two_laid}
+use Rattle.lists.proofs.SortLaws.{keys_long, keys_below, keys_ends, keys_places}
 use Rattle.lists.proofs.LoopLaws.{Fill, fill_end}
 use Rattle.hyperparams.specs.declared.ValidParams.{ValidParams}
 use Rattle.counting_tree.specs.Domain.{Counts}
@@ -25,10 +28,10 @@ use Rattle.cells_grid.specs.Lawful.{Lawful}
 use Rattle.cells_grid.specs.Arrangement.{cell_at, core_bit, Arranged}
 use Rattle.cells_grid.specs.Ready.{ready_lawful}
 use Rattle.cells_grid.proofs.ArrangementLaws.{number_below, members_number, arranged_over}
-use Rattle.lists.specs.Sorting.{start_of, places_of, key_in, Sortable, Sorted}
+use Rattle.lists.specs.Sorting.{start_of, places_of, key_in, Sorted}
 use Rattle.blocks.specs.Blocks.{width, bucket_of, frame_at, key_for, sorted_by}
 use Rattle.blocks.specs.RowLaws.{key_below}
-use Rattle.blocks.specs.SortedLaws.{places_long, sorted_length, sorted_after, sorted_under, sorted_cleared, can_sort, keys_cleared}
+use Rattle.blocks.specs.SortedLaws.{places_long, sorted_length, sorted_after, sorted_under, sorted_cleared}
 use Rattle.cells_grid.specs.Crowding.{itself, every, frame_key}
 use Rattle.cells_grid.specs.Pairs.{others}
 use Rattle.cells_grid.proofs.PairLaws.{others_more}
@@ -159,15 +162,56 @@ module _ {ps : List ℤ} {v : ValidParams} {n k : ℕ} (w₀ : List ℕ)
         ∙ sorted_cleared key n (8 * n) (16 * n) n (le_refl n) (behind n) (key_low v n ps) (over w₀ (4 * n) D) (omega (arith, p.2)) (omega (arith, p.2)) (14 * n) (10 * n) (omega arith) (omega arith) (omega arith) (omega arith) (omega (arith, p.2))
         (clear_after w₀ (14 * n) (10 * n) (4 * n) D (omega (arith, p.2)) (omega arith) later_clear)
 
--- ---- all frames are sorted: their keys are written, then they are sorted, then the keys are cleared
-module _ {ps : List ℤ} {v : ValidParams} {n : ℕ} (w₀ : List ℕ) (p : Ready ps v n × (24 * n ≤ length w₀) × Clear w₀ (14 * n) (10 * n))
-    {w : List ℕ} {j : ℕ} (F : Fill (frame_key v n ps) w₀ (15 * n) n w j) (h : n ≤ j) where
-  clear_at : (b m : ℕ) → 14 * n ≤ b → b + m ≤ 24 * n → Clear w₀ b m
-  clear_at b m l g = clear_within w₀ (14 * n) (10 * n) b m p.2 l (omega arith)
+-- ---- all frames are sorted: w is cut in A, P, K and E, where the frames are sorted by the keys in K to P, and the ends go to E; K' are the keys
+module _ {ps : List ℤ} {v : ValidParams} {n : ℕ} (r : Ready ps v n) (w : List ℕ) (fit : 24 * n ≤ length w) (z : Clear w (14 * n) (10 * n))
+    {A R P R₁ K E : List ℕ} (ea : A ≡ take (14 * n) w) (er : R ≡ drop (14 * n) w) (ep : P ≡ take n R) (er₁ : R₁ ≡ drop n R) (ek : K ≡ take n R₁) (ee : E ≡ drop n R₁)
+    {K' : List ℕ} (kc : K' ≡ column (frame_key v n ps) n) where
+  clear_at : (b m : ℕ) → 14 * n ≤ b → b + m ≤ 24 * n → Clear w b m
+  clear_at b m l g = clear_within w (14 * n) (10 * n) b m z l (omega arith)
 
-  pub frames_can : Sortable (15 * n) n (16 * n) (8 * n) (14 * n) w × Clear w (16 * n) (8 * n)
-  frames_can = can_sort (frame_key v n ps) n (8 * n) (16 * n) n (le_refl n) (behind n) (key_low v n ps) w₀ (omega (arith, p.1)) (omega (arith, p.1)) (clear_at (16 * n) (8 * n) (omega arith) (omega arith)) (clear_at (15 * n) n (omega arith) (omega arith)) (omega (arith, p.0.few)) (fill_end F h)
+  no_keys : K ≡ replicate n 0
+  no_keys =
+      ek ∙ ap (take n) (er₁ ∙ ap (drop n) er ∙ drop-drop n (14 * n) w)
+      ∙ clear_part w (14 * n + n) n (omega arith) (clear_at (14 * n + n) n (omega arith) (omega arith))
 
-  pub frames_sorted : {u x : List ℕ} → u ≡ over (over w (14 * n) (places_of (key_in w (15 * n)) n (8 * n))) (16 * n) (column (λ b. start_of (key_in w (15 * n)) n (b + 1)) (8 * n)) → x ≡ over u (15 * n) (replicate n 0)
-      → x ≡ sorted_by (frame_key v n ps) n (8 * n) (16 * n) n w₀
-  frames_sorted e f = f ∙ keys_cleared (frame_key v n ps) n (8 * n) (16 * n) n (le_refl n) (behind n) (key_low v n ps) w₀ (omega (arith, p.1)) (omega (arith, p.1)) (clear_at (16 * n) (8 * n) (omega arith) (omega arith)) (clear_at (15 * n) n (omega arith) (omega arith)) (omega (arith, p.0.few)) (fill_end F h) e
+  no_ends : take (8 * n) E ≡ replicate (8 * n) 0
+  no_ends =
+      ap (take (8 * n)) (ee ∙ ap (drop n) (er₁ ∙ ap (drop n) er ∙ drop-drop n (14 * n) w) ∙ drop-drop n (14 * n + n) w)
+      ∙ clear_part w (14 * n + n + n) (8 * n) (omega arith) (clear_at (14 * n + n + n) (8 * n) (omega arith) (omega arith))
+
+  ends_room : length (take (8 * n) E) ≡ 8 * n
+  ends_room = ap length no_ends ∙ length-replicate {A = ℕ} (8 * n) 0
+
+  lr : length R ≡ length w - 14 * n
+  lr = ap length er ∙ length-drop (14 * n) w
+
+  lp : length P ≡ n
+  lp = ap length ep ∙ length-take-le n R (omega (arith, lr))
+
+  pub frames_can : Below (length (take (8 * n) E)) K' × (length K' ≤ 65535) × (length P ≡ length K')
+  frames_can = (
+    keys_below (frame_key v n ps) n kc (length (take (8 * n) E)) (λ i h. omega (arith, key_low v n ps i h, ends_room)),
+    omega (arith, r.few, keys_long (frame_key v n ps) n kc),
+    lp ∙ sym (keys_long (frame_key v n ps) n kc),
+  )
+
+  pub frames_clear : take (8 * n) E ≡ replicate (length (take (8 * n) E)) 0
+  frames_clear = no_ends ∙ ap (λ (m : ℕ). replicate m 0) (sym ends_room)
+
+  pub frames_sorted : {P' E' Z : List ℕ} {j : ℕ} → E' ≡ column (λ b. start_of (key_in K') (length K') (b + 1)) (length (take (8 * n) E)) → P' ≡ places_of (key_in K') (length K') (length (take (8 * n) E))
+      → Z ≡ replicate j 0 → j ≡ n → A ++ (P' ++ (Z ++ (E' ++ drop (8 * n) E))) ≡ sorted_by (frame_key v n ps) n (8 * n) (16 * n) n w
+  unfolding sorted_by
+  frames_sorted {P'} {E'} {Z} {j} e p q l =
+      let key = frame_key v n ps in
+      let ends : E' ≡ column (λ b. start_of key n (b + 1)) (8 * n) = e ∙ ap (column (λ b. start_of (key_in K') (length K') (b + 1))) ends_room ∙ keys_ends key n kc (8 * n) in
+      let places : P' ≡ places_of key n (8 * n) = p ∙ ap (places_of (key_in K') (length K')) ends_room ∙ keys_places key n kc (8 * n) in
+      let l₁ : length P' ≡ n = ap length places ∙ places_long key n (8 * n) (16 * n) n (le_refl n) (behind n) (key_low v n ps) in
+      let l₂ : length E' ≡ 8 * n = ap length ends ∙ length_numbers (λ b. start_of key n (b + 1)) (8 * n) in
+      let l₃ : length (P ++ K) ≡ n + n = length-append P K ∙ omega (arith, lp, ap length no_keys, length-replicate {A = ℕ} n 0) in
+      let la : length A ≡ 14 * n = ap length ea ∙ length-take-le (14 * n) w (omega arith) in
+      ap (λ (x : List ℕ). A ++ (P' ++ (x ++ (E' ++ drop (8 * n) E)))) (q ∙ ap (λ (m : ℕ). replicate m 0) l ∙ sym no_keys)
+      ∙ ap (λ (x : List ℕ). A ++ x) (sym (append_assoc P' K (E' ++ drop (8 * n) E)) ∙ ap (λ (x : List ℕ). P' ++ x ++ (E' ++ drop (8 * n) E)) (sym (drop_at P K n lp)))
+      ∙ two_laid A (P ++ K) E P' E' (14 * n) (16 * n) n (8 * n) l₁ l₂ (sym la) (omega (arith, la, l₃)) (omega (arith, l₃))
+      ∙ ap (λ (x : List ℕ). over (over x (14 * n) P') (16 * n) E')
+      (ap (λ (x : List ℕ). A ++ x) (append_assoc P K E ∙ ap₂ ◌++◌ ep (ap₂ ◌++◌ ek ee ∙ take-append-drop n R₁ ∙ er₁) ∙ take-append-drop n R ∙ er) ∙ ap (λ (x : List ℕ). x ++ drop (14 * n) w) ea ∙ take-append-drop (14 * n) w)
+      ∙ ap₂ (λ (us vs : List ℕ). over (over w (14 * n) us) (16 * n) vs) places ends

@@ -1,46 +1,25 @@
 -- The words of a run cut in parts, for the time in which it is told which frames are core: the cells before 4n, from 10n on the n words in which they are told, and the sorted frames from 14n on.
-use mathlib.Core.Path.{◌≡◌, sym, ap, ap₂, ◌∙◌}
-use mathlib.Core.List.{List, ◌++◌, append_assoc}
+use mathlib.Core.Path.{◌≡◌, sym, ap, ap₂, subst, ◌∙◌}
+use mathlib.Core.List.{List, ◌++◌}
 use Prim.Native.Nat.{ℕ, ◌+◌, ◌-◌, ◌*◌, ◌≤◌}
 use native.Mathlib.Omega.{arith}
-use lib.ListN.{length, get_or, take, drop, replicate}
-use Rattle.std.proofs.Math.Seq.{drop-drop}
-use Rattle.std.proofs.lemmas.List.{take-append-le, drop-append-le, length-take-le}
-use Rattle.lists.specs.Lists.{numbers}
+use lib.ListN.{length, take, drop, replicate}
+use Rattle.std.proofs.Math.Seq.{drop-drop, take-take}
+use Rattle.std.proofs.lemmas.List.{length-take-le}
 use Rattle.lists.specs.Words.{over, part, Clear}
 use Rattle.lists.specs.Sorting.{Sorted}
-use Rattle.lists.specs.ListLaws.{map_same, in_numbers}
 use Rattle.lists.proofs.WordLaws.{put_over}
-use Rattle.lists.proofs.PartLaws.{part_part, column_part, column_replicate}
+use Rattle.lists.proofs.PartLaws.{part_part, clear_part}
+use Rattle.lists.proofs.Parts.{over_front}
 use Rattle.counting_tree.specs.Geometry.{Geometry}
 use Rattle.cells_grid.specs.Arrangement.{Arranged}
-use Rattle.cells_grid.proofs.ArrangementLaws.{cells_le}
-
--- words laid in the front of a list
-over_front : (xs ys : List ℕ) (a : ℕ) (ws : List ℕ) → a + length ws ≤ length xs → over xs a ws ++ ys ≡ over (xs ++ ys) a ws
-over_front xs ys a ws h =
-    append_assoc (take a xs ++ ws) (drop (a + length ws) xs) ys
-    ∙ ap₂ (λ (p r : List ℕ). p ++ ws ++ r) (sym (take-append-le a xs ys (omega arith))) (sym (drop-append-le (a + length ws) xs ys h))
+use Rattle.cells_grid.proofs.ArrangementLaws.{arranged_front}
 
 module _ (h : List ℕ) (n : ℕ) (fit : 24 * n ≤ length h) where
   -- the cells
   module _ (low cells : List ℕ) (el : low ≡ take (10 * n) h) (ec : cells ≡ take (4 * n) low) where
-    in_cells : (b m : ℕ) → b + m ≤ 4 * n → part cells b m ≡ part h b m
-    in_cells b m l =
-        let z : 0 + (0 + b) ≡ b = omega arith in
-        ap (λ (x : List ℕ). part x b m) (ec ∙ ap (take (4 * n)) el)
-        ∙ part_part (take (10 * n) h) 0 (4 * n) b m l
-        ∙ part_part h 0 (10 * n) (0 + b) m (omega arith)
-        ∙ ap (λ (x : ℕ). part h x m) z
-
     pub cells_arranged : {g : Geometry} {k : ℕ} → g.frames ≡ n → Arranged g k h → Arranged g k cells
-    cells_arranged {g} {k} e A = record {
-      count = A.count;
-      numbers = in_cells 0 g.frames (omega (arith, e)) ∙ A.numbers;
-      firsts = in_cells g.frames k (omega (arith, e, A.count, cells_le g)) ∙ A.firsts;
-      starts = in_cells (2 * g.frames) k (omega (arith, e, A.count, cells_le g)) ∙ A.starts;
-      places = in_cells (3 * g.frames) g.frames (omega (arith, e)) ∙ A.places;
-    }
+    cells_arranged {g} {k} e A = subst (Arranged g k) (sym (ec ∙ ap (take (4 * n)) el ∙ take-take (4 * n) (10 * n) h (omega arith))) (arranged_front g (4 * n) (omega (arith, e)) A)
 
     pub low_long : length low ≡ 10 * n
     low_long = ap length el ∙ length-take-le (10 * n) h (omega arith)
@@ -49,10 +28,7 @@ module _ (h : List ℕ) (n : ℕ) (fit : 24 * n ≤ length h) where
     -- the words in which it is told
     pub told_clear : (told : List ℕ) → told ≡ take n high → Clear h (10 * n) n → told ≡ replicate n 0
     told_clear told et z =
-        et ∙ ap (take n) eh
-        ∙ sym (column_part h (10 * n) n (omega arith))
-        ∙ map_same (λ i. get_or h (10 * n + i) 0) (λ i. 0) (numbers n) (λ i j. z i (in_numbers n i j))
-        ∙ column_replicate 0 n
+        et ∙ ap (take n) eh ∙ clear_part h (10 * n) n (omega arith) z
 
     -- the sorted frames
     module _ (rest : List ℕ) (er : rest ≡ drop n high) where

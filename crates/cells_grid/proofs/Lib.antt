@@ -24,3 +24,4 @@ pub mod Gathering
 pub mod CellSearch
 pub mod SortedHeld
 pub mod Cut
+pub mod Chain

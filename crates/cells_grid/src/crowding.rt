@@ -10,7 +10,6 @@ ghost use Rattle.cells_grid.specs.Crowding.{frame_key, frames_near, neighbour_in
 
 use crate::around::Around;
 use crate::sorted::SortedFrames;
-use blocks::KEYS;
 use counting_tree::Frames;
 use lists::Word;
 
@@ -32,11 +31,14 @@ pub fn sort_frames(frames: &Frames, work: &mut [Word])
 {
     let n = frames.n;
     let width = blocks::width(frames.v.t);
-    for j in 0..n {
-        work[KEYS * n + j] = blocks::key(frames, width, BUCKETS * n - 1, j) as Word;
+    let (_, rest) = work.split_at_mut(blocks::PLACES * n);
+    let (places, rest) = rest.split_at_mut(n);
+    let (keys, ends) = rest.split_at_mut(n);
+    for (j, key) in keys.iter_mut().enumerate() {
+        *key = blocks::key(frames, width, BUCKETS * n - 1, j) as Word;
     }
-    lists::sorting::sort(work, KEYS * n, n, ENDS * n, BUCKETS * n, blocks::PLACES * n);
-    lists::clear_words(work, KEYS * n, n);
+    lists::sorting::sort(keys, &mut ends[..BUCKETS * n], places);
+    keys.fill(0);
 }
 
 // A search for the neighbours of a frame: the rows around it, and the first frame of its cell.

@@ -11,7 +11,6 @@ ghost use Rattle.cells_grid.specs.Passing.{Passes, Passes_prop, left_of, passed_
 
 use crate::SortedCells;
 use crate::around::Around;
-use blocks::KEYS;
 use counting_tree::Frames;
 use hyperparams::ValidParams;
 use lists::Word;
@@ -55,11 +54,15 @@ pub fn sort_cells(frames: &Frames, k: usize, work: &mut [Word])
     ensures { let f = frames.now in work.new ≡ sorted_by (cell_key f.v f.n f.points.now) k (4 * k) (10 * f.n) f.n work.old }
 {
     let n = frames.n;
-    for c in 0..k {
-        work[KEYS * n + c] = cell_key(frames, k, work, c) as Word;
+    let (cells, rest) = work.split_at_mut(ENDS * n);
+    let (ends, rest) = rest.split_at_mut((blocks::PLACES - ENDS) * n);
+    let (places, keys) = rest.split_at_mut(n);
+    let keys = &mut keys[..k];
+    for (c, key) in keys.iter_mut().enumerate() {
+        *key = cell_key(frames, k, cells, c) as Word;
     }
-    lists::sorting::sort(work, KEYS * n, k, ENDS * n, BUCKETS * k, blocks::PLACES * n);
-    lists::clear_words(work, KEYS * n, k);
+    lists::sorting::sort(keys, &mut ends[..BUCKETS * k], &mut places[..k]);
+    keys.fill(0);
 }
 
 // Marked cells: the mark of each cell, how many of the sorted cells right after each one have its mark, and the mark of those that are passed. So a run of them is passed at once.

@@ -4,11 +4,11 @@ use mathlib.Core.Path.{◌≡◌, refl, sym, ap, ap₂, ◌∙◌, subst}
 use mathlib.Core.Bool.{Bool, true, false}
 use mathlib.Core.List.{List, [], ◌∷◌}
 use Rattle.std.proofs.Common.{take_at}
-use Rattle.std.proofs.lemmas.Bool.{lt-leb}
-use Rattle.std.specs.Prelude.{Option, None, Some, slice_get, unwrap_or, IfSome, MatchOption}
+use Rattle.std.specs.Prelude.{Option, None, Some, slice_get, unwrap_or, IfSome, MatchOption, IsTrue}
 use Prim.Native.Nat.{ℕ, ◌+◌, ◌<◌, ◌≤◌}
 use native.Mathlib.Omega.{arith}
-use lib.Dec.{T, leb}
+use borrow.Author.Tests.{lt-ltb, ltb-true, ltb-false}
+use lib.Dec.{T, ltb}
 use lib.ListN.{length, take, drop, get_or}
 use Rattle.lists.specs.Lists.{numbers, keep, head_or, In, nonzero}
 use Rattle.lists.specs.Words.{over}
@@ -36,10 +36,10 @@ LowestSoFar f k xs o j = Lowest f k xs (unwrap_or o k) j × IfSome o (λ c. c < 
 pub none_so_far : (f : ℕ → Bool) (k : ℕ) (xs : List ℕ) → LowestSoFar f k xs None 0
 none_so_far f k xs = (lowest_start f k xs, tt)
 
--- `lower` is whether c is below what is kept, of which P tells the same by its value
-pub some_lower : (o : Option ℕ) {k c : ℕ} {r : Bool} {P : ℕ → Type 0} → MatchOption o (r ≡ false) P → ((x : ℕ) → P x → r ≡ leb x c) → c < k → r ≡ leb (unwrap_or o k) c
-some_lower None e p l = e ∙ sym (lt-leb _ _ l)
-some_lower (Some x) m p l = p x m
+-- r is whether c is below what is kept, of which P tells the same by its value
+below_kept : (o : Option ℕ) {k c : ℕ} {r : Bool} {P : ℕ → Type 0} → MatchOption o (IsTrue r) P → ((x : ℕ) → P x → r ≡ ltb c x) → c < k → r ≡ ltb c (unwrap_or o k)
+below_kept None t p l = t ∙ sym (lt-ltb _ _ l)
+below_kept (Some x) m p l = p x m
 
 first_of : {k : ℕ} (o : Option ℕ) (xs : List ℕ) → ((x : ℕ) → In x xs → x < k) → IfSome o (λ c. c < k) → unwrap_or o k ≡ head_or k xs → o ≡ slice_get xs 0
 first_of None [] b l e = refl
@@ -98,16 +98,17 @@ module _ {s : CellsGrid} {i : ℕ} {xs : List ℕ} (z : Lists s i xs) where
     listed_low = omega (arith, is_listed, below_at s.k L j (λ d i. (sound d i).0) inside)
 
     module _ (o : Option ℕ) (low : LowestSoFar (counts (geometry s.frames) i) s.k (list_of s.frames.v s.frames.n s.frames.points.now (cell_number (geometry s.frames) i)) o j) where
-      pub not_lower : unwrap_or o s.k ≤ get_or xs j 0 → LowestSoFar (counts (geometry s.frames) i) s.k (list_of s.frames.v s.frames.n s.frames.points.now (cell_number (geometry s.frames) i)) o (j + 1)
-      not_lower l = (lowest_same low.0 inside is_listed (λ t. l), low.1)
+      pub not_lower : {r : Bool} {P : ℕ → Type 0} → MatchOption o (IsTrue r) P → ((x : ℕ) → P x → r ≡ ltb (get_or xs j 0) x) → r ≡ false
+          → LowestSoFar (counts (geometry s.frames) i) s.k (list_of s.frames.v s.frames.n s.frames.points.now (cell_number (geometry s.frames) i)) o (j + 1)
+      not_lower m p e = (lowest_same low.0 inside is_listed (λ t. ltb-false _ _ (sym (below_kept o m p listed_low) ∙ e)), low.1)
 
       pub no_count : {a : Bool} → a ≡ counts (geometry s.frames) i (get_or xs j 0) → a ≡ false
           → LowestSoFar (counts (geometry s.frames) i) s.k (list_of s.frames.v s.frames.n s.frames.points.now (cell_number (geometry s.frames) i)) o (j + 1)
       no_count q f = (lowest_same low.0 inside is_listed (λ t. absurd (subst T (sym q ∙ f) t)), low.1)
 
-      pub lower : get_or xs j 0 < unwrap_or o s.k → {a : Bool} → a ≡ counts (geometry s.frames) i (get_or xs j 0) → a ≡ true
+      pub lower : {r : Bool} {P : ℕ → Type 0} → MatchOption o (IsTrue r) P → ((x : ℕ) → P x → r ≡ ltb (get_or xs j 0) x) → r ≡ true → {a : Bool} → a ≡ counts (geometry s.frames) i (get_or xs j 0) → a ≡ true
           → LowestSoFar (counts (geometry s.frames) i) s.k (list_of s.frames.v s.frames.n s.frames.points.now (cell_number (geometry s.frames) i)) (Some (get_or xs j 0)) (j + 1)
-      lower l q f = (lowest_less low.0 inside is_listed l (sym q ∙ f), listed_low)
+      lower m p e q f = (lowest_less low.0 inside is_listed (ltb-true _ _ (sym (below_kept o m p listed_low) ∙ e)) (sym q ∙ f), listed_low)
 
   pub lowest_border : {o : Option ℕ} {j : ℕ} → LowestSoFar (counts (geometry s.frames) i) s.k (list_of s.frames.v s.frames.n s.frames.points.now (cell_number (geometry s.frames) i)) o j → length xs ≤ j
       → o ≡ slice_get (keep (borders_at (geometry s.frames) (cell_number (geometry s.frames) i) i) (numbers s.k)) 0

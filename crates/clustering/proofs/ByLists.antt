@@ -99,7 +99,10 @@ module _ {s : CellsGrid} {link : ℕ → ℕ → Bool} {ms : List ℕ} {from to 
   rows_end h = met_end link i.met (ap rows (rest_end to c h))
 
   -- cell d is the next, after which those from n on are left
-  module _ (h : c < to) {d n : ℕ} (ed : d ≡ c) (en : n ≡ c + 1) (l : d < s.k) {b : Bool} (eb : b ≡ core_cell (geometry s.frames) (cell_at (geometry s.frames) d)) where
+  module _ (most : to ≤ s.k) (h : c < to) {d n : ℕ} (ed : d ≡ c) (en : n ≡ c + 1) {b : Bool} (eb : b ≡ core_cell (geometry s.frames) (cell_at (geometry s.frames) d)) where
+    l : d < s.k
+    l = omega arith
+
     split : (row : List (ℕ × ℕ)) → pairs_with (g s) d (unlike ms (later s) d) ≡ row → rows (rest to c) ≡ row ++ rows (rest to n)
     unfolding pairs_by
     split row e = ap rows (rest_step to c h ∙ ap₂ (λ (x y : ℕ). x ∷ rest to y) (sym ed) (sym en)) ∙ ap (λ (r : List (ℕ × ℕ)). r ++ rows (rest to n)) e

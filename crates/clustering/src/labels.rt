@@ -77,10 +77,7 @@ fn border_cell(cells: &ListedCells, list: &mut [Word], i: usize) -> Option<usize
     let mut lowest = None;
     for c in &list[..m] {
         let c = *c as usize;
-        if lowest.is_some_and(|b| b <= c) {
-            continue;
-        }
-        if core.reaches(i, c, core.root_first(c)) {
+        if lowest.is_none_or(|b| c < b) && core.reaches(i, c, core.root_first(c)) {
             lowest = Some(c);
         }
     }

@@ -14,6 +14,7 @@ ghost use Rattle.clustering.specs.Turns.{core_frame_at, asked_at, turn_at};
 use crate::links::Links;
 use core_cells::CoreCells;
 use counting_tree::Box;
+use std::ops::Range;
 
 // How many turns are taken before it is asked what whole numbers tell of all frames at once: most linked cells are found in few turns.
 const TURNS: usize = 8;
@@ -58,13 +59,13 @@ fn asks(cells: &CoreCells, c: usize, t: Target, j: usize) -> bool
     }
 }
 
-// Whether one of the turns from `from` up to `to` finds a link of the cells a and b.
-fn by_turns(cells: &CoreCells, a: Target, b: Target, from: usize, to: usize) -> bool
+// Whether one of some turns finds a link of the cells a and b.
+fn by_turns(cells: &CoreCells, a: Target, b: Target, mut turns: Range<usize>) -> bool
     requires first_cell { let f = cells.now.grid.frames in (a.cell < cells.now.grid.k) × IfSome a.root (λ x. x ≡ root_box f.v f.n f.points.now a.cell) }
     requires second_cell { let f = cells.now.grid.frames in (b.cell < cells.now.grid.k) × IfSome b.root (λ x. x ≡ root_box f.v f.n f.points.now b.cell) }
-    ensures { result ≡ any (turn_at (geometry cells.now.grid.frames) a.cell b.cell) (rest to from) }
+    ensures { result ≡ any (turn_at (geometry cells.now.grid.frames) a.cell b.cell) (rest turns.end turns.start) }
 {
-    (from..to).any(|j| asks(cells, a.cell, b, j) || asks(cells, b.cell, a, j))
+    turns.any(|j| asks(cells, a.cell, b, j) || asks(cells, b.cell, a, j))
 }
 
 // What the core frames of c and d tell by whole numbers before a tree of them is asked. (Where neither has a tree it is not asked:
@@ -90,7 +91,7 @@ pub fn is_linked(cells: &CoreCells, c: usize, d: usize) -> bool
     }
     let a = target_of(cells, c);
     let b = target_of(cells, d);
-    if by_turns(cells, a, b, 0, TURNS) {
+    if by_turns(cells, a, b, 0..TURNS) {
         return true;
     }
     let most = cells
@@ -104,7 +105,7 @@ pub fn is_linked(cells: &CoreCells, c: usize, d: usize) -> bool
     if let Some(told) = told_by_cells(cells, c, d) {
         return told;
     }
-    by_turns(cells, a, b, TURNS, most)
+    by_turns(cells, a, b, TURNS..most)
 }
 
 // The test whether cells are linked.

@@ -82,9 +82,9 @@ module _ (s : CoreCells) where
     root_is ef es eb = eb ∙ ap₂ (box_of s.grid.frames.v.channels) es (ef ∙ ap placed (sym (frame_at n s.grid.frames.v.channels s.grid.frames.points.now (cell_at g c) first_low)))
 
     -- its tree: two less than the word that says where it begins is the number of its first node
-    module _ (first : ℕ) (q : first + 2 ≡ get_or s.grid.work.now (5 * s.grid.frames.n + c) 0) where
+    module _ {first w : ℕ} (two : (2 ≤ w) × (first ≡ w - 2)) (q : w ≡ get_or s.grid.work.now (5 * s.grid.frames.n + c) 0) where
       word : first + 2 ≡ tree_word g s.has_trees.0 c
-      word = q ∙ word_at (held s) e c h
+      word = omega (arith, two, q, word_at (held s) e c h)
 
       large : s.has_trees.0 < length (tree_frames g c)
       large = word_large g s.has_trees.0 c (omega (arith, word))

@@ -17,16 +17,14 @@ use Rattle.hyperparams.specs.Params.{max_frames, work_words}
 use Rattle.hyperparams.specs.declared.ValidParams.{ValidParams}
 use Rattle.counting_tree.specs.Geometry.{Geometry}
 use Rattle.counting_tree.specs.Ready.{geometry_at, Ready, at_frames, at_levels}
-use Rattle.cells_grid.specs.Cells.{members}
 use Rattle.cells_grid.specs.Lawful.{Lawful}
 use Rattle.cells_grid.specs.Ready.{ready_lawful}
-use Rattle.cells_grid.specs.Arrangement.{cell_at, start_at, Cored}
-use Rattle.cells_grid.specs.Places.{end_in}
-use Rattle.cells_grid.proofs.ArrangementLaws.{start_next, start_le, words_count, cell_size, cell_end_le, cell_places}
+use Rattle.cells_grid.specs.Arrangement.{Cored}
+use Rattle.cells_grid.proofs.ArrangementLaws.{start_next, start_le, words_count}
 use Rattle.tree_structure.specs.Encode.{size, encode, encode_length}
 use Rattle.tree_structure.specs.Work.{max_levels, max_nodes, Room}
-use Rattle.core_cells.specs.Forest.{core_among, CanGather, tree_frames, is_core, tree_size, tree_words, nodes_to, tree_word}
-use Rattle.core_cells.specs.ForestLaws.{cell_below, among_core, frames_below, frames_le, core_frames, no_core_frames, no_core_word, small_word, small_words, small_size}
+use Rattle.core_cells.specs.Forest.{tree_frames, is_core, tree_size, tree_words, nodes_to, tree_word}
+use Rattle.core_cells.specs.ForestLaws.{frames_below, frames_le, core_frames, no_core_frames, no_core_word, small_word, small_words, small_size}
 use Rattle.core_cells.specs.ForestLaws.{tree_word_lem, tree_words_lem, tree_size_lem, nodes_next, nodes_fit, nodes_most}
 
 pub ready_levels : {ps : List ℤ} {v : ValidParams} {n : ℕ} → Ready ps v n → (geometry_at v n ps).levels ≤ max_levels
@@ -64,21 +62,6 @@ module _ {g : Geometry} {n k : ℕ} {w : List ℕ} (R : Ripe g n k w) where
       let l : nodes_to g few d ≤ n * (g.levels + 1) = subst (λ (x : ℕ). nodes_to g few d ≤ x * (g.levels + 1)) R.frames (nodes_fit g few R.lawful d (omega (arith, R.cored.cells.count))) in
       omega (arith, R.room)
 
-  -- the places of cell c
-  module _ {c from to : ℕ} (h : c < k) (ef : from ≡ get_or w (2 * n + c) 0) (et : to ≡ end_in w n k c) where
-    places : part w (3 * n + from) (to - from) ≡ members g (cell_at g c)
-    places = cell_places g R.lawful R.cored.cells n R.frames c h ef et
-
-    pub can_gather : CanGather w n from to (10 * n)
-    can_gather = record {
-      few = R.few;
-      order = omega (arith, cell_size g R.lawful R.cored.cells n R.frames c h ef et);
-      places = cell_end_le g R.lawful R.cored.cells n R.frames c h ef et;
-      above = omega arith;
-      room = omega (arith, R.room);
-      below = subst (Below n) (sym places) (cell_below g (cell_at g c) R.frames);
-    }
-
 -- the m core frames of cell c are gathered, and its tree is to stand at `at`
 pub record Gathered (g : Geometry) (n k : ℕ) (w : List ℕ) (few c at m : ℕ) (w₁ : List ℕ) : Type 0 where
   pub ripe : Ripe g n k w
@@ -88,19 +71,16 @@ pub record Gathered (g : Geometry) (n k : ℕ) (w : List ℕ) (few c at m : ℕ)
   pub most : m ≤ n
   pub work : w₁ ≡ over w (10 * n) (tree_frames g c)
 
-pub gathered : {g : Geometry} {n k : ℕ} {w : List ℕ} {few c at m from to : ℕ} {w₁ : List ℕ} → Ripe g n k w → c < k → at ≡ 16 * n + 4 * nodes_to g few c
-    → from ≡ get_or w (2 * n + c) 0 → to ≡ end_in w n k c → m ≡ length (core_among w n from to) → w₁ ≡ over w (10 * n) (core_among w n from to) → Gathered g n k w few c at m w₁
-gathered {g} {n} {k} {w} {few} {c} R h p ef et em e₁ =
-    let e = among_core R.lawful R.cored R.frames c h ef et in
-    let l : start_at g (c + 1) ≤ g.frames = start_le g R.lawful (c + 1) (omega (arith, R.cored.cells.count)) in
-    record {
-      ripe = R;
-      inside = h;
-      place = p;
-      count = em ∙ ap length e;
-      most = omega (arith, em, ap length e, frames_le g c, start_next g c (omega (arith, R.cored.cells.count)), R.frames);
-      work = e₁ ∙ ap (over w (10 * n)) e;
-    }
+pub gathered : {g : Geometry} {n k : ℕ} {w : List ℕ} {few c at m : ℕ} {w₁ : List ℕ} → Ripe g n k w → c < k → at ≡ 16 * n + 4 * nodes_to g few c
+    → m ≡ length (tree_frames g c) → w₁ ≡ over w (10 * n) (tree_frames g c) → Gathered g n k w few c at m w₁
+gathered {g} {n} {k} {w} {few} {c} R h p em e₁ = record {
+  ripe = R;
+  inside = h;
+  place = p;
+  count = em;
+  most = omega (arith, em, frames_le g c, start_next g c (omega (arith, R.cored.cells.count)), start_le g R.lawful (c + 1) (omega (arith, R.cored.cells.count)), R.frames);
+  work = e₁;
+}
 
 module _ {g : Geometry} {n k : ℕ} {w : List ℕ} {few c at m : ℕ} {w₁ : List ℕ} (G : Gathered g n k w few c at m w₁) where
   abbrev R : Ripe g n k w

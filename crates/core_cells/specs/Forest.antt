@@ -1,7 +1,7 @@
 -- The trees of the core cells with more than a few core frames, in the lent work words: where each cell's tree begins, and the nodes of all trees
 -- in ascending cell number. Definitions only.
-use Rattle.std.specs.Prelude.{◌≡◌, Bool, ◌||◌, cond, List, [], ◌++◌, ℕ, zero, suc, ◌+◌, ◌-◌, ◌*◌, ◌≤◌, eqb, leb, ltb, length, get_or}
-use Rattle.lists.specs.Lists.{keep, Below}
+use Rattle.std.specs.Prelude.{◌≡◌, Bool, ◌||◌, cond, List, [], ◌++◌, ℕ, zero, suc, ◌+◌, ◌-◌, ◌*◌, eqb, leb, ltb, length, get_or}
+use Rattle.lists.specs.Lists.{keep}
 use Rattle.lists.specs.Words.{part, column}
 use Rattle.hyperparams.specs.Params.{max_frames}
 use Rattle.counting_tree.specs.Geometry.{Geometry}
@@ -13,14 +13,9 @@ use Rattle.tree_structure.specs.Encode.{size, encode}
 unfoldable pub core_among : List ℕ → (n from to : ℕ) → List ℕ
 core_among w n from to = keep (λ i. eqb (get_or w (4 * n + i) 0) 1) (part w (3 * n + from) (to - from))
 
--- what copying them to `at` asks
-pub record CanGather (w : List ℕ) (n from to at : ℕ) : Type 0 where
-  pub few : n ≤ max_frames
-  pub order : from ≤ to
-  pub places : to ≤ n
-  pub above : 5 * n ≤ at
-  pub room : at + n ≤ length w
-  pub below : Below n (part w (3 * n + from) (to - from))
+-- whether the words w say that frame i is core
+abbrev pub is_marked : List ℕ → ℕ → ℕ → Bool
+is_marked w n i = eqb (get_or w (4 * n + i) 0) 1
 
 -- a run of n frames in k cells at first builds the trees of those with more core frames than this: none where there is one level below the root,
 -- or one cell, or sixteen frames or more to a cell

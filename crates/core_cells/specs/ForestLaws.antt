@@ -29,7 +29,7 @@ use Rattle.cells_grid.proofs.ArrangementLaws.{start_next, start_le, cells_le, ce
 use Rattle.tree_structure.specs.Encode.{size, encode, TreeAt, encode_length, size_le}
 use Rattle.tree_structure.specs.Work.{max_levels, max_nodes}
 use Rattle.tree_structure.proofs.Levels.{size_pos}
-use Rattle.core_cells.specs.Forest.{core_among, path_limit, tree_frames, is_core, is_large, tree_size, tree_words, nodes_to, forest_to, tree_word, Grown}
+use Rattle.core_cells.specs.Forest.{core_among, is_marked, path_limit, tree_frames, is_core, is_large, tree_size, tree_words, nodes_to, forest_to, tree_word, Grown}
 use Rattle.core_cells.specs.HasTrees.{Holds}
 
 -- a run never takes a number below 64
@@ -259,16 +259,23 @@ module _ {g : Geometry} {k : ℕ} {w : List ℕ} (gr : Grown g k w) {n : ℕ} (e
     forest = part_above w (16 * g.frames) (length (forest_to g gr.few k)) b ws (omega arith) f ∙ gr.forest;
   }
 
--- the core frames among a cell's places are those of its tree
 pub cell_below : (g : Geometry) (i : ℕ) {n : ℕ} → g.frames ≡ n → Below n (members g i)
 cell_below g i e x m = omega (arith, (in_member g i x m).0)
 
+-- those of a cell's frames that words say are core are those of its tree
+pub marked_core : {g : Geometry} {k : ℕ} {w : List ℕ} → Cored g k w → {n : ℕ} → g.frames ≡ n → (c : ℕ) (us : List ℕ) → ((i : ℕ) → i < n → get_or us (4 * n + i) 0 ≡ get_or w (4 * n + i) 0)
+    → {xs : List ℕ} → xs ≡ members g (cell_at g c) → keep (is_marked us n) xs ≡ tree_frames g c
+unfolding core_members
+marked_core {g} {k} {w} C {n} e c us same ex =
+    ap (keep (is_marked us n)) ex
+    ∙ keep_same (is_marked us n) (core g) (members g (cell_at g c))
+    (λ i j. let l = cell_below g (cell_at g c) e i j in ap (λ (y : ℕ). eqb y 1) (same i l) ∙ core_word g C n e i l)
+
+-- the core frames among a cell's places are those of its tree
 pub among_core : {g : Geometry} {k : ℕ} {w : List ℕ} → Lawful g → Cored g k w → {n : ℕ} → g.frames ≡ n → (c : ℕ) → c < k
     → {from to : ℕ} → from ≡ get_or w (2 * n + c) 0 → to ≡ end_in w n k c → core_among w n from to ≡ tree_frames g c
-unfolding core_among core_members
-among_core {g} {k} {w} L C {n} e c h ef et =
-    ap (keep (λ i. eqb (get_or w (4 * n + i) 0) 1)) (cell_places g L C.cells n e c h ef et)
-    ∙ keep_same (λ i. eqb (get_or w (4 * n + i) 0) 1) (core g) (members g (cell_at g c)) (λ i j. core_word g C n e i (cell_below g (cell_at g c) e i j))
+unfolding core_among
+among_core {g} {k} {w} L C {n} e c h ef et = marked_core C e c w (λ i j. refl) (cell_places g L C.cells n e c h ef et)
 
 -- what `build_trees` lays holds them
 pub grown : {g : Geometry} {k : ℕ} {w : List ℕ} → Cored g k w → {n : ℕ} → g.frames ≡ n → 16 * n ≤ length w → (few : ℕ)

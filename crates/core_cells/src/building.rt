@@ -1,14 +1,14 @@
 // Building the trees of the core cells, in words of one lent slice.
 ghost use Rattle.std.specs.Prelude.{◌≡◌, [], ◌∷◌, ◌+◌, ◌*◌, ◌<◌, ◌≤◌, length, get_or};
-ghost use Rattle.lists.specs.Lists.{nonzero};
+ghost use Rattle.lists.specs.Lists.{nonzero, keep, Below};
 ghost use Rattle.lists.specs.Words.{over, column, Clear};
 ghost use Rattle.hyperparams.specs.Params.{levels, work_words};
 ghost use Rattle.counting_tree.specs.Given.{geometry};
 ghost use Rattle.cells_grid.specs.Arrangement.{Cored};
-ghost use Rattle.core_cells.specs.Forest.{core_among, CanGather, path_limit, tree_size, tree_words, nodes_to, forest_to, tree_word};
+ghost use Rattle.core_cells.specs.Forest.{is_marked, tree_frames, path_limit, tree_size, tree_words, nodes_to, forest_to, tree_word};
 
+use cells_grid::CellsGrid;
 use cells_grid::listing::TREES;
-use cells_grid::{PLACES, STARTS};
 use counting_tree::Frames;
 use hyperparams::MAX_FRAMES;
 use lists::Word;
@@ -29,21 +29,36 @@ pub const PATHS: usize = 64;
 // With so many frames or more to a cell, on average, no tree is built at first.
 const LARGE: usize = 16;
 
-// Copies the core frames at the places from `from` up to `to`, to `at`. Returns how many there are.
-fn gather_core(work: &mut [Word], n: usize, from: usize, to: usize, at: usize) -> usize
-    requires { CanGather work.old n from to at }
-    ensures value { result ≡ length (core_among work.old n from to) }
-    ensures work_after { work.new ≡ over work.old at (core_among work.old n from to) }
+// Copies those of some frames that are core. Returns how many there are.
+fn copy_core(words: &[Word], n: usize, frames: &[Word], gathered: &mut [Word]) -> usize
+    requires { Below n frames.now × (5 * n ≤ length words.now) × (length frames.now ≤ length gathered.old) }
+    ensures value { result ≡ length (keep (is_marked words.now n) frames.now) }
+    ensures work_after { gathered.new ≡ over gathered.old 0 (keep (is_marked words.now n) frames.now) }
 {
     let mut m = 0;
-    for p in from..to {
-        let i = lists::word(work, PLACES * n + p);
-        if cells_grid::is_core(work, n, i) {
-            work[at + m] = i as Word;
+    for i in frames {
+        if cells_grid::is_core(words, n, *i as usize) {
+            gathered[m] = *i;
             m += 1;
         }
     }
     m
+}
+
+// Copies the core frames of cell c to 10n on. Returns how many there are.
+fn gather_core(frames: &Frames, k: usize, work: &mut [Word], c: usize) -> usize
+    requires { let f = frames.now in Cored (geometry f) k work.old × (c < k) × (11 * f.n ≤ length work.old) }
+    ensures value { result ≡ length (tree_frames (geometry frames.now) c) }
+    ensures work_after { work.new ≡ over work.old (10 * frames.now.n) (tree_frames (geometry frames.now) c) }
+{
+    let n = frames.n;
+    let (words, gathered) = work.split_at_mut(GATHERED * n);
+    let grid = CellsGrid {
+        frames: *frames,
+        k,
+        work: words,
+    };
+    copy_core(grid.work, n, grid.frames_of(c), gathered)
 }
 
 // Writes the tree of cell c from `at` on, if the cell has more than `few` core frames, and the word that says where it begins:
@@ -63,10 +78,8 @@ fn build_tree(
     ensures work_after { let g = geometry frames.now in work.new ≡ over (over work.old (5 * frames.now.n + c) (tree_word g few c ∷ [])) at (tree_words g few c) }
 {
     let n = frames.n;
-    let from = lists::word(work, STARTS * n + c);
-    let to = cells_grid::cell_end(work, n, k, c);
     let lo = GATHERED * n;
-    let m = gather_core(work, n, from, to, lo);
+    let m = gather_core(frames, k, work, c);
     let slot = TREES * n + c;
     if m == 0 {
         work[slot] = 0;

@@ -7,3 +7,4 @@ pub mod Within
 pub mod LoopLaws
 pub mod BucketLaws
 pub mod SortLaws
+pub mod Parts

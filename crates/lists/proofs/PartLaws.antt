@@ -166,9 +166,12 @@ pub holds_at_0 : (xs : List ℕ) (n : ℕ) (h : ℕ → ℕ) (i : ℕ) → part 
 holds_at_0 xs n h i e k = ap (λ (z : ℕ). get_or xs z 0) (sym (zero-add i)) ∙ holds_at xs 0 n h i e k
 
 -- ---- words that are 0
+pub clear_part : (xs : List ℕ) (a n : ℕ) → a + n ≤ length xs → Clear xs a n → part xs a n ≡ replicate n 0
+clear_part xs a n h z = ext_get_or 0 (part xs a n) (replicate n 0) (part_length xs a n h ∙ sym (length-replicate {A = ℕ} n 0))
+    (λ i g. let k : i < n = omega (arith, part_length xs a n h) in part_at xs a n i k ∙ z i k ∙ sym (get_or-replicate {A = ℕ} n i 0 0 k))
+
 pub clear_over : (xs : List ℕ) (a n : ℕ) → a + n ≤ length xs → Clear xs a n → over xs a (replicate n 0) ≡ xs
-clear_over xs a n h z = over_self xs a n (replicate n 0) (ext_get_or 0 (part xs a n) (replicate n 0) (part_length xs a n h ∙ sym (length-replicate {A = ℕ} n 0))
-    (λ i g. let k : i < n = omega (arith, part_length xs a n h) in part_at xs a n i k ∙ z i k ∙ sym (get_or-replicate {A = ℕ} n i 0 0 k))) h
+clear_over xs a n h z = over_self xs a n (replicate n 0) (clear_part xs a n h z) h
 
 pub clear_before : (xs : List ℕ) (a n b : ℕ) (ws : List ℕ) → b ≤ length xs → a + n ≤ b → Clear xs a n → Clear (over xs b ws) a n
 clear_before xs a n b ws k h z i e = get_under xs b (a + i) ws (omega arith) k ∙ z i e

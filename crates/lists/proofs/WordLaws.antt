@@ -143,7 +143,7 @@ module _ {A : Type 0} where
   pub set_over : (xs : List A) (a : ℕ) (x : A) → a < length xs → set xs a x ≡ over xs a (x ∷ [])
   set_over xs a x h = ap (λ (z : List A). set z a x) (sym (over_nil xs a)) ∙ over_snoc xs a a [] x (sym (add-zero a)) h
 
-  set_after : (xs ys : List A) (j : ℕ) (x : A) → set (xs ++ ys) (length xs + j) x ≡ xs ++ set ys j x
+  pub set_after : (xs ys : List A) (j : ℕ) (x : A) → set (xs ++ ys) (length xs + j) x ≡ xs ++ set ys j x
   set_after [] ys j x = ap (λ (k : ℕ). set ys k x) (zero-add j)
   set_after (y ∷ xs) ys j x =
       let e : suc (length xs) + j ≡ suc (length xs + j) = omega arith in

@@ -1,7 +1,6 @@
-// Hash buckets: chains of numbers in words of a lent slice. From `heads` on stands the last number put in each bucket, from `nexts` on, for each number,
+// Hash buckets: chains of numbers in words of lent slices. `heads` has the last number put in each bucket, `nexts`, for each number,
 // the one before it in its bucket: one more than it, 0 for none.
-ghost use Rattle.std.specs.Prelude.{◌≡◌, [], ◌∷◌, ◌+◌, ◌<◌, length, get_or};
-ghost use Rattle.lists.specs.Words.{over};
+ghost use Rattle.std.specs.Prelude.{◌≡◌, ◌+◌, ◌<◌, length, get_or, set};
 ghost use Rattle.lists.specs.Buckets as Definitions;
 ghost use Rattle.lists.specs.Lists.{Below};
 ghost use Rattle.lists.specs.Buckets.{hashes, hash_of};
@@ -40,11 +39,11 @@ pub fn bucket(h: u64, n: usize) -> usize
 }
 
 // Puts the number c at the head of bucket h.
-#[tactic(auto, using(crate::proofs::WordLaws::two_sets))]
-pub fn push(work: &mut [Word], heads: usize, nexts: usize, h: usize, c: usize)
-    requires { (heads + h < length work.old) × (nexts + c < length work.old) × (c < 65535) }
-    ensures { work.new ≡ over (over work.old (nexts + c) (get_or work.old (heads + h) 0 ∷ [])) (heads + h) ((c + 1) ∷ []) }
+pub fn push(heads: &mut [Word], nexts: &mut [Word], h: usize, c: usize)
+    requires { (h < length heads.old) × (c < length nexts.old) × (c < 65535) }
+    ensures heads { heads.new ≡ set heads.old h (c + 1) }
+    ensures nexts { nexts.new ≡ set nexts.old c (get_or heads.old h 0) }
 {
-    work[nexts + c] = work[heads + h];
-    work[heads + h] = (c + 1) as Word;
+    nexts[c] = heads[h];
+    heads[h] = (c + 1) as Word;
 }

@@ -10,12 +10,10 @@ use Rattle.blocks.proofs.bucket.Goals as goal
 pub overflow_add-b : goal.overflow_add-b
 overflow_add-b c = record { fits = omega (arith, c.bucket.ensures, c.requires, bucket_below c.args.size (c.args.h % 4294967296) (mod-lt c.args.h (omega arith)) c.requires.0) }
 
-pub returns-then-b-size : goal.returns-then-b-size
+pub returns-then-b-size-clause-value : goal.returns-then-b-size-clause-value
 unfolding bucket_at
-returns-then-b-size c =
-    let e = ap (λ (b : ℕ). (b + c.args.along) % c.args.size) c.bucket.ensures in
-    record { value = sym (mod-eq_of_lt c.if-b-size.true) ∙ e; upper_bound = c.if-b-size.true }
+returns-then-b-size-clause-value c = sym (mod-eq_of_lt c.if-b-size.true) ∙ ap (λ (b : ℕ). (b + c.args.along) % c.args.size) c.bucket.ensures
 
-pub returns : goal.returns
+pub returns-else-b-size-clause-value : goal.returns-else-b-size-clause-value
 unfolding bucket_at
-returns c = record { value = ap (λ (b : ℕ). (b + c.args.along) % c.args.size) c.bucket.ensures; upper_bound = mod-lt (c.bucket.result + c.args.along) c.requires.0 }
+returns-else-b-size-clause-value c = ap (λ (b : ℕ). (b + c.args.along) % c.args.size) c.bucket.ensures

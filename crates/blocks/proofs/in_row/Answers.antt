@@ -1,35 +1,45 @@
 -- Channel by channel, until one differs or none is left.
-use mathlib.Core.Path.{refl, ap, ◌∙◌}
-use mathlib.Core.Bool.{not}
+use mathlib.Core.Path.{sym, ap, ap₂, ◌∙◌}
+use mathlib.Core.Bool.{Bool, ◌&&◌}
+use Prim.Native.Nat.{ℕ, ◌+◌, ◌-◌}
 use native.Mathlib.Nat.{mod-lt}
 use native.Mathlib.Omega.{arith}
+use lib.IntN.{pos}
+use lib.ListN.{get_or, take, drop}
 use Rattle.lists.specs.OrderLaws.{below_at}
-use Rattle.blocks.proofs.Edges.{bit_0, same_next, same_stop, same_last, all_same}
+use Rattle.counting_tree.specs.Domain.{Count}
+use Rattle.counting_tree.specs.Frames.{Frame}
+use Rattle.blocks.specs.Blocks.{key_of, shifted, same_nats}
+use Rattle.blocks.proofs.Edges.{same_from, same_next, same_first, all_same}
 use Rattle.blocks.proofs.in_row.Goals as goal
 
-pub returns-then-frames-eq1 : goal.returns-then-frames-eq1
-returns-then-frames-eq1 c = all_same c.args.frames.now.ready c.args.j c.requires.0 c.args.width c.args.m c.args.first c.well_formed.1.1.0.1.0.1 0 (omega (arith, c.if-frames-eq1.true))
-
 pub holds-requires : goal.holds-requires
-holds-requires c = (c.requires.1, c.requires.2, below_at 65536 c.args.first 1 c.requires.3 (omega (arith, c.well_formed.1.1.0.1.0.1)), c.requires.4 1 (omega (arith, c.args.frames.now.ready.settings.scale.some, c.if-frames-eq1.false)), mod-lt _ (omega arith))
+holds-requires c = (c.requires.1, c.requires.2, below_at 65536 c.args.first c.loop-k.k c.requires.3 (omega (arith, c.well_formed.1.1.0.1.0.1, c.loop-k-test.true, c.args.frames.now.ready.settings.scale.most)), c.requires.4 c.loop-k.k c.loop-k-test.true, mod-lt _ (omega arith))
 
 pub returns-then-not-holds : goal.returns-then-not-holds
-returns-then-not-holds c = same_stop c.args.frames.now.ready c.args.j c.requires.0 c.args.width c.args.m c.args.first c.well_formed.1.1.0.1.0.1 0 _ _ (omega (arith, c.args.frames.now.ready.settings.scale.some, c.if-frames-eq1.false)) refl (record { sfits = c.holds-arg-1.given }) (bit_0 c.args.m) c.holds.result c.holds.ensures (ap not c.if-not-holds.true)
+returns-then-not-holds c =
+    let F = c.frame-frame.result.now in
+    let a : Count (get_or F c.loop-k.k (pos 0)) = omega arith in
+    let m = c.args.frames.now.ready.settings.scale.most in
+    let l = c.frame-frame.ensures.long in
+    let n = same_next c.args.width c.args.first F c.args.m (omega (arith, m, l, c.well_formed.1.1.0.1.0.1)) (omega (arith, l, c.loop-k-test.true)) c.loop-k.k c.loop-k.auto.k (omega (arith, l, c.loop-k-test.true)) a c.holds.ensures in
+    sym (n ∙ ap (λ (t : Bool). t && same_from c.args.width c.args.first F c.args.m (c.loop-k.k + 1)) c.if-not-holds.true) ∙ c.loop-k.invariant
+    ∙ same_first c.args.width c.args.first F c.args.m ∙ ap₂ (λ (f : Frame) (d : ℕ). same_nats (key_of c.args.width (drop 1 f)) (shifted c.args.width (take (d - 1) (drop 1 c.args.first)) c.args.m)) c.frame-frame.ensures.value l
 
-pub returns-then-frames-eq2 : goal.returns-then-frames-eq2
-returns-then-frames-eq2 c = all_same c.args.frames.now.ready c.args.j c.requires.0 c.args.width c.args.m c.args.first c.well_formed.1.1.0.1.0.1 1 (omega (arith, c.if-frames-eq2.true)) ∙ same_next c.args.frames.now.ready c.args.j c.requires.0 c.args.width c.args.m c.args.first c.well_formed.1.1.0.1.0.1 0 _ _ (omega (arith, c.args.frames.now.ready.settings.scale.some, c.if-frames-eq1.false)) refl (record { sfits = c.holds-arg-1.given }) (bit_0 c.args.m) c.holds.result c.holds.ensures (ap not c.if-not-holds.false)
-
-pub holds-requires-2 : goal.holds-requires-2
-holds-requires-2 c = (c.requires.1, c.requires.2, below_at 65536 c.args.first 2 c.requires.3 (omega (arith, c.well_formed.1.1.0.1.0.1)), c.requires.4 2 (omega (arith, c.args.frames.now.ready.settings.scale.some, c.if-frames-eq1.false, c.if-frames-eq2.false)), mod-lt _ (omega arith))
-
-pub returns-then-not-holds-2 : goal.returns-then-not-holds-2
-returns-then-not-holds-2 c = same_stop c.args.frames.now.ready c.args.j c.requires.0 c.args.width c.args.m c.args.first c.well_formed.1.1.0.1.0.1 1 _ _ (omega (arith, c.args.frames.now.ready.settings.scale.some, c.if-frames-eq1.false, c.if-frames-eq2.false)) refl (record { sfits = c.holds-arg-2-1.given }) refl c.holds-2.result c.holds-2.ensures (ap not c.if-not-holds-2.true) ∙ same_next c.args.frames.now.ready c.args.j c.requires.0 c.args.width c.args.m c.args.first c.well_formed.1.1.0.1.0.1 0 _ _ (omega (arith, c.args.frames.now.ready.settings.scale.some, c.if-frames-eq1.false)) refl (record { sfits = c.holds-arg-1.given }) (bit_0 c.args.m) c.holds.result c.holds.ensures (ap not c.if-not-holds.false)
-
-pub returns-then-frames-eq3 : goal.returns-then-frames-eq3
-returns-then-frames-eq3 c = all_same c.args.frames.now.ready c.args.j c.requires.0 c.args.width c.args.m c.args.first c.well_formed.1.1.0.1.0.1 2 (omega (arith, c.if-frames-eq3.true)) ∙ same_next c.args.frames.now.ready c.args.j c.requires.0 c.args.width c.args.m c.args.first c.well_formed.1.1.0.1.0.1 1 _ _ (omega (arith, c.args.frames.now.ready.settings.scale.some, c.if-frames-eq1.false, c.if-frames-eq2.false)) refl (record { sfits = c.holds-arg-2-1.given }) refl c.holds-2.result c.holds-2.ensures (ap not c.if-not-holds-2.false) ∙ same_next c.args.frames.now.ready c.args.j c.requires.0 c.args.width c.args.m c.args.first c.well_formed.1.1.0.1.0.1 0 _ _ (omega (arith, c.args.frames.now.ready.settings.scale.some, c.if-frames-eq1.false)) refl (record { sfits = c.holds-arg-1.given }) (bit_0 c.args.m) c.holds.result c.holds.ensures (ap not c.if-not-holds.false)
-
-pub holds-requires-3 : goal.holds-requires-3
-holds-requires-3 c = (c.requires.1, c.requires.2, below_at 65536 c.args.first 3 c.requires.3 (omega (arith, c.well_formed.1.1.0.1.0.1)), c.requires.4 3 (omega (arith, c.args.frames.now.ready.settings.scale.some, c.if-frames-eq1.false, c.if-frames-eq2.false, c.if-frames-eq3.false)), mod-lt _ (omega arith))
+pub loop-k-preserved : goal.loop-k-preserved
+loop-k-preserved c =
+    let F = c.frame-frame.result.now in
+    let a : Count (get_or F c.loop-k.k (pos 0)) = omega arith in
+    let m = c.args.frames.now.ready.settings.scale.most in
+    let l = c.frame-frame.ensures.long in
+    let n = same_next c.args.width c.args.first F c.args.m (omega (arith, m, l, c.well_formed.1.1.0.1.0.1)) (omega (arith, l, c.loop-k-test.true)) c.loop-k.k c.loop-k.auto.k (omega (arith, l, c.loop-k-test.true)) a c.holds.ensures in
+    sym (n ∙ ap (λ (t : Bool). t && same_from c.args.width c.args.first F c.args.m (c.loop-k.k + 1)) c.if-not-holds.false) ∙ c.loop-k.invariant
 
 pub returns : goal.returns
-returns c = same_last c.args.frames.now.ready c.args.j c.requires.0 c.args.width c.args.m c.args.first c.well_formed.1.1.0.1.0.1 2 _ _ (omega (arith, c.args.frames.now.ready.settings.scale.some, c.if-frames-eq1.false, c.if-frames-eq2.false, c.if-frames-eq3.false)) refl (record { sfits = c.holds-arg-3-1.given }) refl c.holds-3.result c.holds-3.ensures (omega (arith, c.args.frames.now.ready.settings.scale.most)) ∙ same_next c.args.frames.now.ready c.args.j c.requires.0 c.args.width c.args.m c.args.first c.well_formed.1.1.0.1.0.1 1 _ _ (omega (arith, c.args.frames.now.ready.settings.scale.some, c.if-frames-eq1.false, c.if-frames-eq2.false)) refl (record { sfits = c.holds-arg-2-1.given }) refl c.holds-2.result c.holds-2.ensures (ap not c.if-not-holds-2.false) ∙ same_next c.args.frames.now.ready c.args.j c.requires.0 c.args.width c.args.m c.args.first c.well_formed.1.1.0.1.0.1 0 _ _ (omega (arith, c.args.frames.now.ready.settings.scale.some, c.if-frames-eq1.false)) refl (record { sfits = c.holds-arg-1.given }) (bit_0 c.args.m) c.holds.result c.holds.ensures (ap not c.if-not-holds.false)
+returns c =
+    let F = c.frame-frame.result.now in
+    let m = c.args.frames.now.ready.settings.scale.most in
+    let s = c.args.frames.now.ready.settings.scale.some in
+    let l = c.frame-frame.ensures.long in
+    all_same c.args.width c.args.first F c.args.m (omega (arith, m, l, c.well_formed.1.1.0.1.0.1)) (omega (arith, l, s)) c.loop-k.k (omega (arith, l, c.loop-k-test.false)) ∙ c.loop-k.invariant
+    ∙ same_first c.args.width c.args.first F c.args.m ∙ ap₂ (λ (f : Frame) (d : ℕ). same_nats (key_of c.args.width (drop 1 f)) (shifted c.args.width (take (d - 1) (drop 1 c.args.first)) c.args.m)) c.frame-frame.ensures.value l

@@ -1,35 +1,35 @@
--- Channel by channel, until none is left.
-use mathlib.Core.Path.{refl, sym}
+-- Channel by channel from the last on.
+use mathlib.Core.Path.{◌≡◌, sym, ap, ap₂, ◌∙◌}
+use Prim.Native.Nat.{ℕ, ◌-◌, ◌^◌}
 use native.Mathlib.Omega.{arith}
+use lib.IntN.{pos}
+use lib.ListN.{get_or}
+use lib.Pow.{pow_mono}
 use Rattle.lists.specs.OrderLaws.{below_at}
-use Rattle.blocks.proofs.Edges.{own_next, own_end, own_is}
+use Rattle.counting_tree.specs.Domain.{Count}
+use Rattle.blocks.proofs.Edges.{own_from, own_next, own_few, own_end}
 use Rattle.blocks.proofs.own_row.Goals as goal
 
-pub returns-then-frames-eq1 : goal.returns-then-frames-eq1
-returns-then-frames-eq1 c =
-    let z = own_is c.args.frames.now.ready c.args.i c.requires.0 c.args.width c.args.first c.well_formed.1.1.0.1.0.1 (sym (own_end c.args.frames.now.ready c.args.i c.requires.0 c.args.width c.args.first c.well_formed.1.1.0.1.0.1 0 (omega (arith, c.if-frames-eq1.true)))) in
-    record { value = z.0; upper_bound = z.1 }
+pub loop-k-init : goal.loop-k-init
+loop-k-init c = (c.args.frames.now.ready.settings.scale.some, sym (own_end c.args.width c.args.first c.frame-frame.result.now) ∙ ap (own_from c.args.width c.args.first c.frame-frame.result.now) c.frame-frame.ensures.long)
 
-pub second-one-requires : goal.second-one-requires
-second-one-requires c = (below_at 65536 c.args.first 1 c.requires.1 (omega (arith, c.well_formed.1.1.0.1.0.1)), c.requires.2)
-
-pub returns-then-frames-eq2 : goal.returns-then-frames-eq2
-returns-then-frames-eq2 c =
-    let z = own_is c.args.frames.now.ready c.args.i c.requires.0 c.args.width c.args.first c.well_formed.1.1.0.1.0.1 (omega (arith, own_next c.args.frames.now.ready c.args.i c.requires.0 c.args.width c.args.first c.well_formed.1.1.0.1.0.1 0 _ c.second-one.result (omega (arith, c.args.frames.now.ready.settings.scale.some, c.if-frames-eq1.false)) refl (record { sfits = c.second-arg-1.given }) c.second-one.ensures.value, own_end c.args.frames.now.ready c.args.i c.requires.0 c.args.width c.args.first c.well_formed.1.1.0.1.0.1 1 (omega (arith, c.if-frames-eq2.true)))) in
-    record { value = z.0; upper_bound = z.1 }
+pub overflow_mul-row : goal.overflow_mul-row
+overflow_mul-row c = record { fits = omega (arith, c.loop-k.invariant.1, own_few c.args.width c.args.first c.frame-frame.result.now c.loop-k.k, pow_mono {i = c.args.frames.now.v.channels - c.loop-k.k} {j = 4} (omega (arith, c.args.frames.now.ready.settings.scale.most)), ap (λ (d : ℕ). 2 ^ (d - c.loop-k.k)) c.frame-frame.ensures.long) }
 
 pub second-requires : goal.second-requires
-second-requires c = (below_at 65536 c.args.first 2 c.requires.1 (omega (arith, c.well_formed.1.1.0.1.0.1)), c.requires.2)
+second-requires c = (below_at 65536 c.args.first (c.loop-k.k - 1) c.requires.1 (omega (arith, c.well_formed.1.1.0.1.0.1, c.loop-k.auto.k, c.loop-k-test.true, c.args.frames.now.ready.settings.scale.most)), c.requires.2)
 
-pub returns-then-frames-eq3 : goal.returns-then-frames-eq3
-returns-then-frames-eq3 c =
-    let z = own_is c.args.frames.now.ready c.args.i c.requires.0 c.args.width c.args.first c.well_formed.1.1.0.1.0.1 (omega (arith, own_next c.args.frames.now.ready c.args.i c.requires.0 c.args.width c.args.first c.well_formed.1.1.0.1.0.1 0 _ c.second-one.result (omega (arith, c.args.frames.now.ready.settings.scale.some, c.if-frames-eq1.false)) refl (record { sfits = c.second-arg-1.given }) c.second-one.ensures.value, own_next c.args.frames.now.ready c.args.i c.requires.0 c.args.width c.args.first c.well_formed.1.1.0.1.0.1 1 _ c.second.result (omega (arith, c.args.frames.now.ready.settings.scale.some, c.if-frames-eq1.false, c.if-frames-eq2.false)) refl (record { sfits = c.second-arg-2-1.given }) c.second.ensures.value, own_end c.args.frames.now.ready c.args.i c.requires.0 c.args.width c.args.first c.well_formed.1.1.0.1.0.1 2 (omega (arith, c.if-frames-eq3.true)))) in
-    record { value = z.0; upper_bound = z.1 }
+pub overflow_add-row : goal.overflow_add-row
+overflow_add-row c = record { fits = omega (arith, c.second.ensures.upper_bound, c.loop-k.invariant.1, own_few c.args.width c.args.first c.frame-frame.result.now c.loop-k.k, pow_mono {i = c.args.frames.now.v.channels - c.loop-k.k} {j = 4} (omega (arith, c.args.frames.now.ready.settings.scale.most)), ap (λ (d : ℕ). 2 ^ (d - c.loop-k.k)) c.frame-frame.ensures.long) }
 
-pub second-requires-2 : goal.second-requires-2
-second-requires-2 c = (below_at 65536 c.args.first 3 c.requires.1 (omega (arith, c.well_formed.1.1.0.1.0.1)), c.requires.2)
+pub loop-k-preserved : goal.loop-k-preserved
+loop-k-preserved c =
+    let a : Count (get_or c.frame-frame.result.now (c.loop-k.k - 1) (pos 0)) = omega arith in
+    let m = c.args.frames.now.ready.settings.scale.most in
+    let l = c.frame-frame.ensures.long in
+    (omega arith, own_next c.args.width c.args.first c.frame-frame.result.now c.loop-k.k c.loop-k-test.true (omega (arith, c.well_formed.1.1.0.1.0.1, c.loop-k.auto.k, m)) (omega (arith, c.loop-k.auto.k, l)) a c.loop-k.invariant.1 c.second.ensures.value)
 
-pub returns : goal.returns
-returns c =
-    let z = own_is c.args.frames.now.ready c.args.i c.requires.0 c.args.width c.args.first c.well_formed.1.1.0.1.0.1 (omega (arith, own_next c.args.frames.now.ready c.args.i c.requires.0 c.args.width c.args.first c.well_formed.1.1.0.1.0.1 0 _ c.second-one.result (omega (arith, c.args.frames.now.ready.settings.scale.some, c.if-frames-eq1.false)) refl (record { sfits = c.second-arg-1.given }) c.second-one.ensures.value, own_next c.args.frames.now.ready c.args.i c.requires.0 c.args.width c.args.first c.well_formed.1.1.0.1.0.1 1 _ c.second.result (omega (arith, c.args.frames.now.ready.settings.scale.some, c.if-frames-eq1.false, c.if-frames-eq2.false)) refl (record { sfits = c.second-arg-2-1.given }) c.second.ensures.value, own_next c.args.frames.now.ready c.args.i c.requires.0 c.args.width c.args.first c.well_formed.1.1.0.1.0.1 2 _ c.second-2.result (omega (arith, c.args.frames.now.ready.settings.scale.some, c.if-frames-eq1.false, c.if-frames-eq2.false, c.if-frames-eq3.false)) refl (record { sfits = c.second-arg-3-1.given }) c.second-2.ensures.value, own_end c.args.frames.now.ready c.args.i c.requires.0 c.args.width c.args.first c.well_formed.1.1.0.1.0.1 3 (omega (arith, c.args.frames.now.ready.settings.scale.most)))) in
-    record { value = z.0; upper_bound = z.1 }
+pub returns-clause-upper_bound : goal.returns-clause-upper_bound
+returns-clause-upper_bound c =
+    let e : c.loop-k.k ≡ 1 = omega (arith, c.loop-k.invariant.0, c.loop-k-test.false) in
+    omega (arith, c.loop-k.invariant.1, own_few c.args.width c.args.first c.frame-frame.result.now c.loop-k.k, ap₂ (λ (d k : ℕ). 2 ^ (d - k)) c.frame-frame.ensures.long e)

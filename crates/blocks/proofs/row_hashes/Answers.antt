@@ -1,53 +1,43 @@
--- Two parts a channel, and their sums.
+-- Two parts a channel, and of each row the sum of its own.
+use mathlib.Core.Path.{◌≡◌, sym, ap, subst, ◌∙◌}
+use Prim.Native.Nat.{◌*◌, ◌/◌}
 use native.Mathlib.Omega.{arith}
+use lib.ListN.{length, drop}
+use Rattle.std.proofs.lemmas.List.{take_all}
+use Rattle.lists.specs.Buckets.{hashes}
+use Rattle.lists.specs.Lists.{Below}
 use Rattle.lists.specs.OrderLaws.{below_at}
-use Rattle.blocks.proofs.Hashes.{rows_of, rows_below}
+use Rattle.lists.specs.Words.{column}
+use Rattle.blocks.specs.Blocks.{row_hash, shifted}
+use Rattle.blocks.proofs.Hashes.{row_is, row_next, rows_below, part_small}
 use Rattle.blocks.proofs.row_hashes.Goals as goal
 
-pub overflow_add-first : goal.overflow_add-first
-overflow_add-first c = record { fits = omega (arith, c.requires.1, below_at 65536 c.args.first 1 c.requires.0 (omega (arith, c.well_formed.0.1.0.1))) }
+pub parts-one-requires : goal.parts-one-requires
+parts-one-requires c = (below_at 65536 c.args.first 1 c.requires.0 (omega (arith, c.well_formed.0.1.0.1)), c.requires.1, omega arith)
 
-pub spread-a-requires : goal.spread-a-requires
-spread-a-requires c = omega (arith, c.requires.1, below_at 65536 c.args.first 1 c.requires.0 (omega (arith, c.well_formed.0.1.0.1)))
+pub parts-two-requires : goal.parts-two-requires
+parts-two-requires c = (below_at 65536 c.args.first 2 c.requires.0 (omega (arith, c.well_formed.0.1.0.1)), c.requires.1, omega arith)
 
-pub overflow_add-first-2 : goal.overflow_add-first-2
-overflow_add-first-2 c = record { fits = omega (arith, c.requires.1, below_at 65536 c.args.first 1 c.requires.0 (omega (arith, c.well_formed.0.1.0.1))) }
+pub parts-three-requires : goal.parts-three-requires
+parts-three-requires c = (below_at 65536 c.args.first 3 c.requires.0 (omega (arith, c.well_formed.0.1.0.1)), c.requires.1, omega arith)
 
-pub overflow_add-first-3 : goal.overflow_add-first-3
-overflow_add-first-3 c = record { fits = omega (arith, c.requires.1, below_at 65536 c.args.first 1 c.requires.0 (omega (arith, c.well_formed.0.1.0.1))) }
+pub overflow_add-hashes : goal.overflow_add-hashes
+overflow_add-hashes c = record { fits = omega (arith, part_small c.parts-one.result c.loop-m.m (ap length c.parts-one.ensures.value) c.parts-one.ensures.below, part_small c.parts-two.result (c.loop-m.m / 2) (ap length c.parts-two.ensures.value) c.parts-two.ensures.below) }
 
-pub spread-b-requires : goal.spread-b-requires
-spread-b-requires c = omega (arith, c.requires.1, below_at 65536 c.args.first 1 c.requires.0 (omega (arith, c.well_formed.0.1.0.1)))
+pub overflow_add-hashes-in-loop-m : goal.overflow_add-hashes-in-loop-m
+overflow_add-hashes-in-loop-m c = record { fits = omega (arith, part_small c.parts-one.result c.loop-m.m (ap length c.parts-one.ensures.value) c.parts-one.ensures.below, part_small c.parts-two.result (c.loop-m.m / 2) (ap length c.parts-two.ensures.value) c.parts-two.ensures.below, part_small c.parts-three.result (c.loop-m.m / 4) (ap length c.parts-three.ensures.value) c.parts-three.ensures.below) }
 
-pub overflow_add-first-4 : goal.overflow_add-first-4
-overflow_add-first-4 c = record { fits = omega (arith, c.requires.1, below_at 65536 c.args.first 2 c.requires.0 (omega (arith, c.well_formed.0.1.0.1))) }
+pub loop-m-preserved : goal.loop-m-preserved
+loop-m-preserved c =
+    row_next (λ m. row_hash (shifted c.args.width (drop 1 c.args.first) m)) c.loop-m.hashes c.loop-m.m c.loop-m-test.true c.loop-m.invariant
+    (row_is c.args.width c.args.first c.well_formed.0.1.0.1 c.parts-one.ensures.value c.parts-two.ensures.value c.parts-three.ensures.value c.loop-m.m)
 
-pub spread-c-requires : goal.spread-c-requires
-spread-c-requires c = omega (arith, c.requires.1, below_at 65536 c.args.first 2 c.requires.0 (omega (arith, c.well_formed.0.1.0.1)))
+pub returns-clause-value : goal.returns-clause-value
+returns-clause-value c =
+    let m : c.loop-m.m ≡ 8 = omega (arith, c.loop-m.auto.m-end, c.loop-m-test.false) in
+    sym (take_all c.loop-m.m c.loop-m.hashes (omega (arith, c.loop-m.invariant.0, m))) ∙ c.loop-m.invariant.1 ∙ ap (column (λ m. row_hash (shifted c.args.width (drop 1 c.args.first) m))) m
 
-pub overflow_add-first-5 : goal.overflow_add-first-5
-overflow_add-first-5 c = record { fits = omega (arith, c.requires.1, below_at 65536 c.args.first 2 c.requires.0 (omega (arith, c.well_formed.0.1.0.1))) }
-
-pub overflow_add-first-6 : goal.overflow_add-first-6
-overflow_add-first-6 c = record { fits = omega (arith, c.requires.1, below_at 65536 c.args.first 2 c.requires.0 (omega (arith, c.well_formed.0.1.0.1))) }
-
-pub spread-d-requires : goal.spread-d-requires
-spread-d-requires c = omega (arith, c.requires.1, below_at 65536 c.args.first 2 c.requires.0 (omega (arith, c.well_formed.0.1.0.1)))
-
-pub overflow_add-first-7 : goal.overflow_add-first-7
-overflow_add-first-7 c = record { fits = omega (arith, c.requires.1, below_at 65536 c.args.first 3 c.requires.0 (omega (arith, c.well_formed.0.1.0.1))) }
-
-pub spread-e-requires : goal.spread-e-requires
-spread-e-requires c = omega (arith, c.requires.1, below_at 65536 c.args.first 3 c.requires.0 (omega (arith, c.well_formed.0.1.0.1)))
-
-pub overflow_add-first-8 : goal.overflow_add-first-8
-overflow_add-first-8 c = record { fits = omega (arith, c.requires.1, below_at 65536 c.args.first 3 c.requires.0 (omega (arith, c.well_formed.0.1.0.1))) }
-
-pub overflow_add-first-9 : goal.overflow_add-first-9
-overflow_add-first-9 c = record { fits = omega (arith, c.requires.1, below_at 65536 c.args.first 3 c.requires.0 (omega (arith, c.well_formed.0.1.0.1))) }
-
-pub spread-f-requires : goal.spread-f-requires
-spread-f-requires c = omega (arith, c.requires.1, below_at 65536 c.args.first 3 c.requires.0 (omega (arith, c.well_formed.0.1.0.1)))
-
-pub returns : goal.returns
-returns c = record { value = rows_of c.args.width c.args.first c.well_formed.0.1.0.1 c.spread-a.ensures.value c.spread-b.ensures.value c.spread-c.ensures.value c.spread-d.ensures.value c.spread-e.ensures.value c.spread-f.ensures.value; below = rows_below c.spread-a.ensures.upper_bound c.spread-b.ensures.upper_bound c.spread-c.ensures.upper_bound c.spread-d.ensures.upper_bound c.spread-e.ensures.upper_bound c.spread-f.ensures.upper_bound }
+pub returns-clause-below : goal.returns-clause-below
+returns-clause-below c =
+    let e = sym (take_all c.loop-m.m c.loop-m.hashes (omega (arith, c.loop-m.invariant.0, c.loop-m-test.false))) ∙ c.loop-m.invariant.1 in
+    subst (Below (3 * hashes)) (sym e) (rows_below (λ m. shifted c.args.width (drop 1 c.args.first) m) c.loop-m.m)

@@ -1,17 +1,8 @@
-use Rattle.std.proofs.Common.{rules, ◌≡◌, ◌∙◌, sym, take, get_or, leb}
-use Rattle.std.specs.Prelude.{unwrap_or}
-use borrow.Author.Tests.{tests, leb-true, leb-false}
-use Rattle.clustering.proofs.Bordering.{some_lower, lists, listed_low, not_lower, no_count, lower, lowest_border}
+use Rattle.std.proofs.Common.{rules}
+use borrow.Author.Tests.{tests}
+use Rattle.clustering.proofs.Bordering.{lists, listed_low, not_lower, no_count, lower, lowest_border}
 use Rattle.clustering.proofs.labels.border_cell.Goals as goal
-use Rattle.clustering.proofs.labels.border_cell.Goals.{then-reaches, else-reaches}
-
-pub loop-c-preserved-then-is_some_and : goal.loop-c-preserved-then-is_some_and
-loop-c-preserved-then-is_some_and c =
-    let s = c.args.cells.now.core.grid in
-    let z = lists s _ c.sorted.ensures.0 c.cell_of.ensures.value c.cell_of.ensures.bound c.list_cells-m.ensures.value c.list_cells-m.ensures.list in
-    let e : c.is_some_and.result ≡ leb (unwrap_or c.loop-c.lowest s.k) (get_or (take c.list_cells-m.result c.list_cells-m.new.list) c.loop-c.c-index 0) =
-    some_lower c.loop-c.lowest c.is_some_and.ensures (λ x p. search (rules, tests)) (listed_low z c.loop-c-test.true) in
-    not_lower z c.loop-c-test.true _ c.loop-c.invariant (leb-true _ _ (sym e ∙ c.if-is_some_and.true))
+use Rattle.clustering.proofs.labels.border_cell.Goals.{then-is_none_or+then-reaches, else-is_none_or, else-is_none_or-via-then-is_none_or+else-reaches, else-is_none_or-via-else-is_none_or}
 
 pub root_first-requires : goal.root_first-requires
 root_first-requires c = listed_low (lists c.args.cells.now.core.grid _ c.sorted.ensures.0 c.cell_of.ensures.value c.cell_of.ensures.bound c.list_cells-m.ensures.value c.list_cells-m.ensures.list) c.loop-c-test.true
@@ -23,13 +14,13 @@ reaches-requires c =
 
 pub loop-c-preserved : goal.loop-c-preserved
 loop-c-preserved c =
-    let s = c.args.cells.now.core.grid in
-    let z = lists s _ c.sorted.ensures.0 c.cell_of.ensures.value c.cell_of.ensures.bound c.list_cells-m.ensures.value c.list_cells-m.ensures.list in
-    let e : c.is_some_and.result ≡ leb (unwrap_or c.loop-c.lowest s.k) (get_or (take c.list_cells-m.result c.list_cells-m.new.list) c.loop-c.c-index 0) =
-    some_lower c.loop-c.lowest c.is_some_and.ensures (λ x p. search (rules, tests)) (listed_low z c.loop-c-test.true) in
-    elim c.if-reaches.branch [
-      | then-reaches w ↦ rw w.lowest-is (lower z c.loop-c-test.true _ c.loop-c.invariant (leb-false _ _ (sym e ∙ c.if-is_some_and.false)) c.reaches.ensures w.if-reaches.true)
-      | else-reaches w ↦ rw w.lowest-is (no_count z c.loop-c-test.true _ c.loop-c.invariant c.reaches.ensures w.if-reaches.false)
+    let z = lists c.args.cells.now.core.grid _ c.sorted.ensures.0 c.cell_of.ensures.value c.cell_of.ensures.bound c.list_cells-m.ensures.value c.list_cells-m.ensures.list in
+    elim c.if-is_none_or.branch [
+      | then-is_none_or+then-reaches w ↦ rw w.lowest-is (lower z c.loop-c-test.true _ c.loop-c.invariant c.is_none_or.ensures (λ x p. search (rules, tests)) w.if-is_none_or.true w.reaches.ensures w.if-reaches.true)
+      | else-is_none_or w ↦ rw w.lowest-is (elim w.else-is_none_or.branch [
+        | else-is_none_or-via-then-is_none_or+else-reaches v ↦ no_count z c.loop-c-test.true _ c.loop-c.invariant v.reaches.ensures v.if-reaches.false
+        | else-is_none_or-via-else-is_none_or v ↦ not_lower z c.loop-c-test.true _ c.loop-c.invariant c.is_none_or.ensures (λ x p. search (rules, tests)) v.if-is_none_or.false
+      ])
     ]
 
 pub returns : goal.returns

@@ -12,5 +12,5 @@ pub returns : goal.returns
 unfolding turn_at
 returns c =
     let g = geometry c.args.cells.now.grid.frames in
-    any_from_yields_List (λ j. asked_at g c.args.a.cell c.args.b.cell j || asked_at g c.args.b.cell c.args.a.cell j) _ _ _ c.any.ensures.ran (YieldsList-from_range c.args.from c.args.to _ refl refl) (λ x b q k. search (rules, tests))
-    ∙ any_from (turn_at g c.args.a.cell c.args.b.cell) c.args.from _
+    any_from_yields_List (λ j. asked_at g c.args.a.cell c.args.b.cell j || asked_at g c.args.b.cell c.args.a.cell j) _ _ _ c.any.ensures.ran (YieldsList-from_range c.args.turns.start c.args.turns.end _ refl refl) (λ x b q k. search (rules, tests))
+    ∙ any_from (turn_at g c.args.a.cell c.args.b.cell) c.args.turns.start _

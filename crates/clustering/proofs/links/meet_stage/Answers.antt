@@ -23,18 +23,16 @@ meet_list-requires g c =
 
 pub loop-c-preserved-then-has_core : goal.loop-c-preserved-then-has_core
 loop-c-preserved-then-has_core g c =
-    let s = c.in-Some.ensures.steps in
-    let low : c.in-Some.c < c.args.cells.now.core.grid.k = omega (arith, s, c.loop-c.invariant.end, c.requires.cells.1) in record {
-      rows = rows_on c.loop-c.invariant.rows (omega (arith, s, c.loop-c.invariant.end)) s.1.1 s.1.2 low c.has_core.ensures c.if-has_core.true
+    let s = c.in-Some.ensures.steps in record {
+      rows = rows_on c.loop-c.invariant.rows c.requires.cells.1 (omega (arith, s, c.loop-c.invariant.end)) s.1.1 s.1.2 c.has_core.ensures c.if-has_core.true
           (list_is c.sorted-sorted.ensures.0 c.args.marks.now c.loop-c.list c.in-Some.c c.list_later-m.ensures.value c.list_later-m.ensures.list) c.meet_list.ensures;
       end = s.0 ∙ c.loop-c.invariant.end;
     }
 
 pub loop-c-preserved : goal.loop-c-preserved
 loop-c-preserved g c =
-    let s = c.in-Some.ensures.steps in
-    let low : c.in-Some.c < c.args.cells.now.core.grid.k = omega (arith, s, c.loop-c.invariant.end, c.requires.cells.1) in record {
-      rows = rows_skip c.loop-c.invariant.rows (omega (arith, s, c.loop-c.invariant.end)) s.1.1 s.1.2 low c.has_core.ensures c.if-has_core.false;
+    let s = c.in-Some.ensures.steps in record {
+      rows = rows_skip c.loop-c.invariant.rows c.requires.cells.1 (omega (arith, s, c.loop-c.invariant.end)) s.1.1 s.1.2 c.has_core.ensures c.if-has_core.false;
       end = s.0 ∙ c.loop-c.invariant.end;
     }
 
