@@ -22,6 +22,7 @@ use Rattle.cells_grid.specs.Cells.{cells}
 use Rattle.cells_grid.specs.Arrangement.{Arranged}
 use Rattle.cells_grid.specs.Crowding.{frame_key}
 use Rattle.cells_grid.specs.Listing.{unmarked, cell_key, list_of, later_of}
+use Rattle.cells_grid.specs.Pairs.{raised}
 use Rattle.cells_grid.proofs.ArrangementLaws.{arranged_over}
 use Rattle.cells_grid.proofs.ListingLaws.{few, cell_key_below, list_length, unmarked_later_length}
 use Rattle.cells_grid.proofs.RaisedLaws.{often_append, often_replicate}
@@ -114,6 +115,11 @@ module _ (w : List ℕ) (a n : ℕ) (fit : a + n ≤ length w) where
   -- what the words become
   abbrev value : List ℕ → ℕ → ℕ
   value js x = get_or w (a + x) 0 + how_many (λ j. eqb x j) js
+
+  -- the words of a slice, laid where they stood
+  pub raised_is : (js : List ℕ) → raised_at w a n js ≡ over w a (raised n (part w a n) js)
+  unfolding raised_at raised
+  raised_is js = ap (over w a) (map_same (value js) (λ x. get_or (part w a n) x 0 + how_many (λ j. eqb x j) js) (numbers n) (λ x i. omega (arith, part_at w a n x (in_numbers n x i))))
 
   pub raised_length : (js : List ℕ) → length (raised_at w a n js) ≡ length w
   unfolding raised_at
