@@ -47,6 +47,13 @@ module _ (w : ℕ) (p : 0 < w) (c : ℤ) {x : ℕ} (e : x ≡ raise c) where
         (λ t. le→leb low x (omega (arith, e, edge_le w p (raise c), eqb→eq (edge w (raise c)) low t)))
 
 -- ---- an array of four
+pub four_below : (n a b c d : ℕ) → a < n → b < n → c < n → d < n → Below n (a ∷ b ∷ c ∷ d ∷ [])
+four_below n a b c d h k l m x (inl e) = omega arith
+four_below n a b c d h k l m x (inr (inl e)) = omega arith
+four_below n a b c d h k l m x (inr (inr (inl e))) = omega arith
+four_below n a b c d h k l m x (inr (inr (inr (inl e)))) = omega arith
+four_below n a b c d h k l m x (inr (inr (inr (inr e)))) = absurd e
+
 -- edges of counts, and zeros after them
 module _ (w down : ℕ) where
   edge_small : (c : ℤ) → Count c → edge w (raise c - down) < 65536

@@ -1,5 +1,5 @@
 -- Laws of numbers sorted by the blocks of their frames, in words: what sorting leaves, where the numbers of two buckets stand, and what writing and clearing other words does.
-use Rattle.std.specs.Prelude.{◌≡◌, ℕ, suc, ◌+◌, ◌-◌, ◌*◌, ◌%◌, ◌<◌, ◌≤◌, replicate}
+use Rattle.std.specs.Prelude.{◌≡◌, ℕ, suc, ◌+◌, ◌-◌, ◌*◌, ◌%◌, ◌<◌, ◌≤◌, get_or, replicate}
 use Rattle.std.proofs.Math.Path.{sym, ap, ap₂}
 use Rattle.std.proofs.Props.{props}
 use Rattle.std.proofs.Common.{subst, ◌∙◌, inl, inr, mod-eq_of_lt, add-one, arith, lt-ltb, le-ltb}
@@ -9,11 +9,12 @@ use Rattle.std.proofs.Math.Decide.{dec_lt}
 use Rattle.std.proofs.Math.ListN.{length, length-replicate}
 use Rattle.lists.specs.Lists.{from, concat}
 use Rattle.lists.specs.Words.{over, part, column, Clear, Apart}
-use Rattle.lists.specs.ListLaws.{length_numbers}
-use Rattle.lists.proofs.WordLaws.{over_length, over_apart}
-use Rattle.lists.proofs.PartLaws.{over_cover, part_apart, part_same, clear_over}
+use Rattle.lists.specs.ListLaws.{length_numbers, at_numbers}
+use Rattle.lists.proofs.WordLaws.{over_length, over_apart, over_swap, over_again}
+use Rattle.lists.proofs.PartLaws.{over_cover, part_apart, part_same, get_laid, get_apart, clear_over}
 use Rattle.lists.specs.Sorting.{numbered, start_of, places_of, begin_in, Sorted}
-use Rattle.lists.proofs.SortLaws.{start_of_none, start_of_all, start_le, start_mono, places_of_length, begin_at, between}
+use Rattle.lists.proofs.SortLaws.{start_of_none, start_of_all, start_le, start_mono, places_of_length, places_of_same, ends_same, begin_at, between}
+use Rattle.lists.proofs.Offsets.{key_at, Sortable}
 use Rattle.blocks.specs.declared.Stretch.{Stretch}
 use Rattle.blocks.specs.Blocks.{stretch_in, sorted_by}
 
@@ -125,3 +126,41 @@ module _ (key : ℕ → ℕ) (m size ends n : ℕ) (few : m ≤ n) (apart : Apar
         over_cover (over w (14 * n) P) ends a E (replicate k 0) q (omega (arith, l, ends_long)) (omega (arith, l₁))
         ∙ over_cover w (14 * n) a P (replicate k 0) p (omega (arith, l, places_long)) (omega arith)
         ∙ clear_over w a k r z
+
+    -- ---- as the program sorts them: their keys stand from 15n on
+    module _ (z : Clear w ends size) (y : Clear w (15 * n) m) (most : m ≤ 65535) {w₁ : List ℕ} (e : w₁ ≡ over w (15 * n) (column key m)) where
+      lk : length (column key m) ≡ m
+      lk = length_numbers key m
+
+      long : length w₁ ≡ length w
+      long = ap length e ∙ over_length w (15 * n) (column key m) (omega (arith, lk))
+
+      key_is : (i : ℕ) → i < m → key_at w₁ (15 * n) i ≡ key i
+      key_is i h = ap (λ (x : List ℕ). get_or x (15 * n + i) 0) e ∙ get_laid w (15 * n) i (column key m) (omega (arith, lk)) (omega arith) ∙ at_numbers key 0 m i h
+
+      pub can_sort : Sortable (15 * n) m ends size (14 * n) w₁ × Clear w₁ ends size
+      can_sort = (
+        record {
+          keyed = record { few = most; fit = omega (arith, long); room = omega (arith, long); apart = (beside (15 * n) m (omega arith) (omega arith)).0; below = λ i h. omega (arith, key_is i h, below i h) };
+          wide = omega (arith, long);
+          keys_apart = inr (omega arith);
+          counts_apart = (beside (14 * n) m (omega arith) (omega arith)).1;
+        },
+        λ i h. ap (λ (x : List ℕ). get_or x (ends + i) 0) e ∙ get_apart w ends size (15 * n) (column key m) (beside (15 * n) m (omega arith) (omega arith)).1 (omega (arith, lk)) (omega arith) i h ∙ z i h,
+      )
+
+      -- sorted, and the keys cleared
+      pub keys_cleared : {w₂ : List ℕ} → w₂ ≡ over (over w₁ (14 * n) (places_of (key_at w₁ (15 * n)) m size)) ends (column (λ b. start_of (key_at w₁ (15 * n)) m (b + 1)) size)
+          → over w₂ (15 * n) (replicate m 0) ≡ sorted_by key m size ends n w
+      unfolding sorted_by
+      keys_cleared {w₂} f =
+          let K = column key m in
+          let l : length (replicate {A = ℕ} m 0) ≡ m = length-replicate m 0 in
+          let l₂ : length (over w (15 * n) K) ≡ length w = over_length w (15 * n) K (omega (arith, lk)) in
+          let l₃ : length (over (over w (15 * n) K) (14 * n) P) ≡ length w = over_length (over w (15 * n) K) (14 * n) P (omega (arith, places_long, l₂)) ∙ l₂ in
+          ap (λ (x : List ℕ). over x (15 * n) (replicate m 0)) (f
+          ∙ ap₂ (λ (us vs : List ℕ). over (over w₁ (14 * n) us) ends vs) (places_of_same (key_at w₁ (15 * n)) key m key_is size) (ends_same (key_at w₁ (15 * n)) key m key_is size)
+          ∙ ap (λ (x : List ℕ). over (over x (14 * n) P) ends E) e)
+          ∙ over_swap (over (over w (15 * n) K) (14 * n) P) ends (15 * n) E (replicate m 0) (beside (15 * n) m (omega arith) (omega arith)).1 (omega (arith, ends_long)) (omega (arith, l)) (omega (arith, ends_long, l₃)) (omega (arith, l, l₃))
+          ∙ ap (λ (x : List ℕ). over x ends E) (over_apart (over w (15 * n) K) (14 * n) (15 * n) P (replicate m 0) (omega (arith, places_long)) (omega (arith, l, l₂))
+          ∙ ap (λ (x : List ℕ). over x (14 * n) P) (over_again w (15 * n) K (replicate m 0) (omega arith) (l ∙ sym lk) ∙ clear_over w (15 * n) m (omega arith) y))

@@ -17,6 +17,7 @@ pub mod RowsAround
 pub mod NeighbourSearch
 pub mod Held
 pub mod SortedLaws
+pub mod Offsets
 pub mod PassingLaws
 pub mod Searching
 pub mod SortedStretch

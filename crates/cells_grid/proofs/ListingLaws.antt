@@ -5,11 +5,12 @@ use Rattle.std.proofs.Common.{ap₂, le_trans, add-mul, mul-add, arith, leb→le
 use Rattle.std.proofs.Math.Logic.{inl, inr}
 use Rattle.std.proofs.Math.Bool.{true, false, not, cond, and-true, and-false}
 use mathlib.Core.List.{List, ◌∷◌, ◌++◌, map, Permᴰ}
-use Prim.Native.Nat.{ℕ, zero, suc, ◌+◌, ◌-◌, ◌*◌, ◌^◌, ◌<◌, ◌≤◌}
+use Prim.Native.Nat.{ℕ, zero, suc, ◌+◌, ◌-◌, ◌*◌, ◌%◌, ◌^◌, ◌<◌, ◌≤◌}
 use Rattle.std.proofs.Math.Decide.{dec_lt}
 use Rattle.std.proofs.Math.Dec.{T, eqb, leb-zero}
 use Rattle.std.proofs.Math.ListN.{length}
-use Rattle.lists.specs.Lists.{from, numbers, keep, concat, In}
+use Rattle.lists.specs.Lists.{from, numbers, keep, concat, In, Below}
+use Rattle.lists.specs.Sorting.{numbered}
 use Rattle.lists.specs.ListLaws.{true_T, and_left, and_right, and_both, in_keep, keep_in, keep_same, keep_more, in_append, append_one, append_two, in_numbers, numbers_in}
 use Rattle.lists.specs.CountLaws.{keep_append, keep_le, keep_all}
 use Rattle.lists.specs.OrderLaws.{kept_le}
@@ -137,6 +138,17 @@ module _ {ps : List ℤ} {v : ValidParams} {n : ℕ} (r : Ready ps v n) where
   -- a key is below 4 × k
   pub cell_key_below : (d : ℕ) → d < length (cells (geometry_at v n ps)) → cell_key v n ps d < 4 * length (cells (geometry_at v n ps))
   cell_key_below d h = omega (arith, key_below (reach_of v) v n ps (4 * k - 1) (omega arith) (cell_at g) (core_at g) d)
+
+  -- what is found in a row are cells
+  pub in_below : (i a q : ℕ) → Below (length (cells (geometry_at v n ps))) (list_in v n ps i a q)
+  unfolding list_in found_in pair_at numbered
+  in_below i a q d l =
+      let b = bucket_around (reach_of v) v n ps (4 * k - 1) i q in
+      let K = cell_key v n ps in
+      elim (in_append d (numbered K k b) (numbered K k ((b + 1) % (4 * k - 1))) (in_keep (near_in v n ps i a q) d (numbered K k b ++ numbered K k ((b + 1) % (4 * k - 1))) l).0) [
+        | inl x ↦ in_numbers k d (in_keep (λ e. eqb (K e) b) d (numbers k) x).0
+        | inr x ↦ in_numbers k d (in_keep (λ e. eqb (K e) ((b + 1) % (4 * k - 1))) d (numbers k) x).0
+      ]
 
   -- ---- the list of a cell
   module _ (c : ℕ) (h : c < length (cells (geometry_at v n ps))) where

@@ -7,6 +7,7 @@ pub mod UniteAll
 pub mod Leading
 pub mod Runs
 pub mod RunsLaws
+pub mod Offsets
 pub mod Turns
 pub mod TurnsLaws
 pub mod Close

@@ -175,7 +175,7 @@ module _ (g : Geometry) where
     nodes_next c = ap (nodes_to g few) (add-one c)
 
     -- the tree of the cell with number c among those of the first k cells
-    forest_split : (c k : ℕ) → c < k → (R : List ℕ) × (forest_to g few k ≡ forest_to g few c ++ (tree_words g few c ++ R))
+    pub forest_split : (c k : ℕ) → c < k → (R : List ℕ) × (forest_to g few k ≡ forest_to g few c ++ (tree_words g few c ++ R))
     unfolding forest_to
     forest_split c zero h = absurd (omega arith)
     forest_split c (suc k) h = elim (T_or_not (ltb c k)) [

@@ -1,5 +1,6 @@
 pub mod Forest
 pub mod ForestLaws
+pub mod Offsets
 pub mod Nearest
 pub mod NearestLaws
 pub mod RootBox

@@ -18,6 +18,13 @@ use Rattle.cells_grid.specs.Arrangement.{cell_at}
 use Rattle.core_cells.specs.declared.spans.Span.{Span}
 use Rattle.core_cells.specs.Spans.{lowest, highest, through, span_from, gap, square_gap, raised_at, cell_span}
 
+-- ---- the lower and the higher of two
+pub lower_le : (a b : ℕ) → (min a b ≤ a) × (min a b ≤ b)
+lower_le a b = (omega arith, omega arith)
+
+pub higher_le : (a b : ℕ) → (a ≤ max a b) × (b ≤ max a b)
+higher_le a b = (omega arith, omega arith)
+
 -- ---- in each channel
 abbrev AtMost : List ℕ → List ℕ → Type 0
 AtMost xs ys = (i : ℕ) → i < 4 → get_or xs i 0 ≤ get_or ys i 0

@@ -46,6 +46,16 @@ module _ (n : ℕ) (q p : List Float) (few : n ≤ 4) (long_q : length q ≡ 4) 
   pub sum_past : (s : Float) (i : ℕ) → n ≤ i → sum_rest s (i + 1) ≡ sum_rest s i
   sum_past s i h = sym (sum_done s (i + 1) (omega arith)) ∙ sum_done s i h
 
+-- ---- a column of what f gives of the elements
+column_from : {A B : Type 0} (f : A → B) (d : A) (xs : List A) (a n : ℕ) → a + n ≤ length xs → map (λ (i : ℕ). f (get_or xs i d)) (from a n) ≡ map f (take n (drop a xs))
+column_from f d xs a zero h = refl
+column_from f d xs a (suc n) h =
+    let k : a < length xs = omega arith in
+    ap (λ (l : List _). f (get_or xs a d) ∷ l) (column_from f d xs (suc a) n (omega arith)) ∙ ap (λ (l : List _). map f (take (suc n) l)) (sym (drop-cons xs a d k))
+
+pub column_take : {A B : Type 0} (f : A → B) (d : A) (xs : List A) (n : ℕ) → n ≤ length xs → column (λ (i : ℕ). f (get_or xs i d)) n ≡ map f (take n xs)
+column_take f d xs n h = column_from f d xs 0 n (omega arith)
+
 -- ---- one corner, coordinate by coordinate
 corner_long : (r : List Float) (e : Float) (k : ℕ) → length (corner_of r e k) ≡ length r
 unfolding corner_of

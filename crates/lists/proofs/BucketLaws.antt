@@ -1,13 +1,13 @@
 -- Laws of hash buckets: hashes and buckets are in range, chains go on with one number more and under writing elsewhere, and a chain is walked from its latest number down.
-use Rattle.std.specs.Prelude.{◌≡◌, refl, ◌⊎◌, Bool, true, false, cond, List, [], ◌∷◌, ℕ, zero, suc, ◌+◌, ◌*◌, ◌/◌, ◌<◌, ◌≤◌, T, eqb, length, drop, get_or}
-use Rattle.std.proofs.Common.{sym, ap, ap₂, subst, ◌∙◌, inl, inr, eq-or-lt_of_le, le_of_suc-le-suc, mod-lt, div-lt_iff_lt-mul, mul-lt-mul_of_pos_right, mul_comm, add-zero, add-one, arith, eqb→eq, drop-cons}
+use Rattle.std.specs.Prelude.{◌≡◌, refl, ◌⊎◌, Bool, true, false, cond, List, [], ◌∷◌, ℕ, zero, suc, ◌+◌, ◌*◌, ◌/◌, ◌^◌, ◌<◌, ◌≤◌, T, eqb, length, drop, get_or}
+use Rattle.std.proofs.Common.{sym, ap, ap₂, subst, ◌∙◌, inl, inr, eq-or-lt_of_le, le_of_suc-le-suc, mod-lt, div-lt_iff_lt-mul, mul-lt-mul_of_pos_right, mul-le-mul, lt_of_le_of_lt, mul_comm, add-zero, add-one, arith, eqb→eq, drop-cons}
 use Rattle.std.proofs.Math.Decide.{ℕ_discrete, dec_lt}
 use Rattle.std.proofs.Math.Dec.{eqb_refl}
 use Rattle.lists.specs.Words.{over, Clear}
 use Rattle.lists.specs.ListLaws.{true_T, T_true, T_false}
 use Rattle.lists.proofs.WordLaws.{over_length}
 use Rattle.lists.proofs.PartLaws.{get_under, get_laid, get_above}
-use Rattle.lists.specs.Buckets.{last_with, hashes, mix, hash_from, bucket, in_bucket, Bucketed}
+use Rattle.lists.specs.Buckets.{last_with, hashes, mix, hash_from, hash_of, bucket, in_bucket, Bucketed}
 
 -- ---- hashes and buckets are in range
 pub mix_below : (h e : ℕ) → mix h e < hashes
@@ -22,9 +22,20 @@ hash_below h (e ∷ es) l = hash_below (mix h e) es (mix_below h e)
 pub hash_step : (es : List ℕ) (h i : ℕ) → i < length es → hash_from h (drop i es) ≡ hash_from (mix h (get_or es i 0)) (drop (i + 1) es)
 hash_step es h i l = rw (add-one, drop-cons es i 0)
 
+pub four_hash : (l : List ℕ) → length l ≡ 4 → {a b c d : ℕ} → a ≡ mix 0 (get_or l 0 0) → b ≡ mix a (get_or l 1 0) → c ≡ mix b (get_or l 2 0) → d ≡ mix c (get_or l 3 0) → d ≡ hash_of l
+four_hash [] e p q r s = absurd (omega arith)
+four_hash (x ∷ []) e p q r s = absurd (omega arith)
+four_hash (x ∷ y ∷ []) e p q r s = absurd (omega arith)
+four_hash (x ∷ y ∷ z ∷ []) e p q r s = absurd (omega arith)
+four_hash (x ∷ y ∷ z ∷ u ∷ []) e p q r s = s ∙ ap (λ (h : ℕ). mix h u) (r ∙ ap (λ (h : ℕ). mix h z) (q ∙ ap (λ (h : ℕ). mix h y) p))
+four_hash (x ∷ y ∷ z ∷ u ∷ v ∷ l) e p q r s = absurd (omega arith)
+
 pub bucket_below : (n h : ℕ) → h < hashes → 0 < n → bucket n h < n
 unfolding bucket
 bucket_below n h l p = (div-lt_iff_lt-mul {k = hashes} (omega arith)).1 (subst (λ (x : ℕ). h * n < x) (mul_comm hashes n) (mul-lt-mul_of_pos_right l p))
+
+pub product_fits : (h n : ℕ) → h < hashes → n < hashes → h * n < 2 ^ 64
+product_fits h n a b = lt_of_le_of_lt (mul-le-mul {n₂ = 4294967295} {m₂ = 4294967295} (omega arith) (omega arith)) (omega arith)
 
 -- ---- the greatest number that passes
 module _ (f : ℕ → Bool) where

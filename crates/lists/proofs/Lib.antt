@@ -7,4 +7,5 @@ pub mod Within
 pub mod LoopLaws
 pub mod BucketLaws
 pub mod SortLaws
+pub mod Offsets
 pub mod Parts
