@@ -241,13 +241,17 @@ module _ {s : Same} {n k l : ℕ} {xs scratch ws : List ℕ} (r : Room s n k l x
         ∙ over_before ws 0 4 H G refl (omega (arith, trees_length s (k - 1) (l + 1) (groups (s (l + 1)) xs), z.nodes, r.room))
         ∙ ap (over ws 0) u
 
--- the root has room: of what is lent to sort in no more is needed, and there is at most a node for each frame and level
-pub root_room : {s : Same} {n k : ℕ} {xs ys ws : List ℕ} → k ≤ max_levels → CanBuild s n k xs ys ws → Room s n k 0 xs (take (length xs) ys) ws
-root_room {s} {n} {k} {xs} {ys} h r = record {
+-- the root has room: there is at most a node for each frame and level
+pub root_room : {s : Same} {n k : ℕ} {xs ys ws : List ℕ} → k ≤ max_levels → CanBuild s n k xs ys ws → Room s n k 0 xs ys ws
+root_room {s} {n} {k} {xs} h r = record {
   some = r.some;
   few = r.few;
   below = r.below;
-  sorting = omega (arith, r.sorting, length-take (length xs) ys);
+  sorting = r.sorting;
   most = le_trans (size_le s k 0 xs r.some) (mul-le-mul {n₂ = max_frames} {m₂ = max_levels + 1} r.few (omega (arith, h)));
   room = r.room;
 }
+
+-- of what is lent to sort in no more is needed
+pub room_cut : {s : Same} {n k l : ℕ} {xs ys ws : List ℕ} → Room s n k l xs ys ws → Room s n k l xs (take (length xs) ys) ws
+room_cut {xs = xs} {ys} r = record { some = r.some; few = r.few; below = r.below; sorting = omega (arith, r.sorting, length-take (length xs) ys); most = r.most; room = r.room }
