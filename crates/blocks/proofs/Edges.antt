@@ -130,11 +130,11 @@ module _ (w : ℕ) (es : List ℕ) (f : Frame) where
           ∙ ap (λ (x : ℕ). x + w * (m / 2 ^ k % 2)) (get_or-take (length f - 1) (drop 1 es) k 0 (omega arith) ∙ get_or-drop 1 es k 0)
           ∙ ap₂ (λ (x y : ℕ). get_or es x 0 + w * (m / 2 ^ y % 2)) a b
 
-      pub same_next : (k : ℕ) {t : Bool} → 0 < k → k < length f → Count (get_or f k (pos 0)) → t ≡ eqb (edge w (raise (to_z w16 (of_z w16 (get_or f k (pos 0)))))) (get_or es k 0 + w * (m / 2 ^ (k - 1) % 2)) → same_from k ≡ t && same_from (k + 1)
-      same_next k {t} p h b q =
+      pub same_next : (k : ℕ) {j : ℕ} {t : Bool} → 0 < k → k < length f → Count (get_or f k (pos 0)) → t ≡ eqb (edge w (raise (to_z w16 (of_z w16 (get_or f k (pos 0)))))) (get_or es k 0 + w * (m / 2 ^ j % 2)) → j ≡ k - 1 → same_from k ≡ t && same_from (k + 1)
+      same_next k {j} {t} p h b q e =
           let d : suc k ≡ k + 1 = omega arith in
           ap₂ same_nats (drop-cons (key_of w f) k 0 (omega (arith, h, length-map f (λ c. edge w (raise c))))) (drop-cons (0 ∷ L) k 0 (omega (arith, h, low_long)))
-          ∙ ap₂ (λ (x y : ℕ). eqb x y && same_from (suc k)) (at_map (λ c. edge w (raise c)) (pos 0) 0 f k h ∙ ap (λ (z : ℤ). edge w (raise z)) (sym (read (get_or f k (pos 0)) b))) (low_at k p h)
+          ∙ ap₂ (λ (x y : ℕ). eqb x y && same_from (suc k)) (at_map (λ c. edge w (raise c)) (pos 0) 0 f k h ∙ ap (λ (z : ℤ). edge w (raise z)) (sym (read (get_or f k (pos 0)) b))) (low_at k p h ∙ ap (λ (x : ℕ). get_or es k 0 + w * (m / 2 ^ x % 2)) (sym e))
           ∙ ap₂ (λ (t : Bool) (j : ℕ). t && same_from j) (sym q) d
 
       pub all_same : (k : ℕ) → length f ≤ k → true ≡ same_from k

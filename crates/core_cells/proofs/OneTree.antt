@@ -22,7 +22,7 @@ use Rattle.cells_grid.specs.Ready.{ready_lawful}
 use Rattle.cells_grid.specs.Arrangement.{Cored}
 use Rattle.cells_grid.proofs.ArrangementLaws.{start_next, start_le, words_count}
 use Rattle.tree_structure.specs.Encode.{size, encode, encode_length}
-use Rattle.tree_structure.specs.Work.{max_levels, max_nodes, Room}
+use Rattle.tree_structure.specs.Work.{max_levels, max_nodes, CanBuild}
 use Rattle.core_cells.specs.Forest.{tree_frames, is_core, tree_size, tree_words, nodes_to, tree_word}
 use Rattle.core_cells.specs.ForestLaws.{frames_below, frames_le, core_frames, no_core_frames, no_core_word, small_word, small_words, small_size}
 use Rattle.core_cells.specs.ForestLaws.{tree_word_lem, tree_words_lem, tree_size_lem, nodes_next, nodes_fit, nodes_most}
@@ -186,13 +186,12 @@ module _ {g : Geometry} {n k : ℕ} {w : List ℕ} {few c at m : ℕ} {w₁ : Li
       copy_is : C ≡ part w₁ (11 * n) n
       copy_is = eC ∙ ap (take n) eB
 
-      pub can_build : Room g.same n g.levels 0 P S N
+      pub can_build : CanBuild g.same n g.levels P S N
       can_build = rw frames_laid record {
         some = omega arith;
         few = omega (arith, G.count, G.most, R.few);
         below = subst (λ (x : ℕ). Below x M) R.frames (frames_below g c);
         sorting = omega (arith, G.count, G.most, above, ap length scratch_is, part_length w₁ (12 * n) (at - 12 * n) (omega (arith, above, fits, gathered_length)));
-        most = omega (arith, tree_size_lem g few c long, nodes_next g few c, nodes_most g few R.lawful (omega (arith, R.frames, R.few)) R.low (c + 1) (omega (arith, G.inside, R.cored.cells.count)));
         room = omega (arith, fits, gathered_length, encode_length g.same g.levels 0 M, ap length nodes_is, length-drop at w₁);
       }
 

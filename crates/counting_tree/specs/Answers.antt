@@ -55,13 +55,13 @@ module _ (n : ℕ) (t ext side : Float) (cs qs : List Float) where
       go false false false true = refl
       go false false false false = refl
 
-covered_disjoint : FullyCovered ≡ Disjoint → ⊥
+pub covered_disjoint : FullyCovered ≡ Disjoint → ⊥
 covered_disjoint e = let z : ◌≡◌ {A = ℕ} 0 1 = cc in omega arith
 
-crossing_disjoint : Intersecting ≡ Disjoint → ⊥
+pub crossing_disjoint : Intersecting ≡ Disjoint → ⊥
 crossing_disjoint e = let z : ◌≡◌ {A = ℕ} 0 1 = cc in omega arith
 
-crossing_covered : Intersecting ≡ FullyCovered → ⊥
+pub crossing_covered : Intersecting ≡ FullyCovered → ⊥
 crossing_covered e = let z : ◌≡◌ {A = ℕ} 0 1 = cc in omega arith
 
 pub said_disjoint : (a b c d : Bool) → answer a b c d ≡ Disjoint → T a

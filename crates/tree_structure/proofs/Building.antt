@@ -3,10 +3,11 @@ use mathlib.Core.Path.{◌≡◌, refl, sym, ap, ◌∙◌}
 use mathlib.Core.Logic.{inl, inr}
 use mathlib.Core.List.{List, [], ◌∷◌, ◌++◌}
 use Prim.Native.Nat.{ℕ, ◌+◌, ◌-◌, ◌*◌, ◌<◌, ◌≤◌}
+use native.Mathlib.Nat.{mul-le-mul}
 use native.Mathlib.Omega.{arith}
 use borrow.Rule.Slice.PartMut.{put_mid}
 use lib.ListN.{length, take, drop, get_or, length-append, length-take}
-use Rattle.std.proofs.Common.{drop-drop}
+use Rattle.std.proofs.Common.{drop-drop, le_trans}
 use Rattle.std.proofs.lemmas.List.{take_rest}
 use Rattle.lists.specs.Lists.{head_or, keep, lose, Below, groups}
 use Rattle.lists.specs.Words.{over, part}
@@ -17,8 +18,8 @@ use Rattle.lists.proofs.GroupLaws.{groups_nil, groups_cons, group_below}
 use Rattle.lists.proofs.WordLaws.{over_length, over_nil, over_self, over_front, over_next, over_before, over_cons, put_over}
 use Rattle.lists.proofs.PartLaws.{part_length, part_first, part_above, part_front, part_back}
 use Rattle.hyperparams.specs.Params.{max_frames}
-use Rattle.tree_structure.specs.Encode.{Same, size, encode, encode_length, trees_length}
-use Rattle.tree_structure.specs.Work.{max_nodes, Room}
+use Rattle.tree_structure.specs.Encode.{Same, size, encode, encode_length, trees_length, size_le}
+use Rattle.tree_structure.specs.Work.{max_levels, max_nodes, CanBuild, Room}
 use Rattle.tree_structure.proofs.Levels.{group_nodes, group_words, last, inner, size_pos}
 
 -- the words from a on
@@ -239,6 +240,17 @@ module _ {s : Same} {n k l : ℕ} {xs scratch ws : List ℕ} (r : Room s n k l x
         ap (λ (z : List ℕ). over z 0 H) (built_words b all)
         ∙ over_before ws 0 4 H G refl (omega (arith, trees_length s (k - 1) (l + 1) (groups (s (l + 1)) xs), z.nodes, r.room))
         ∙ ap (over ws 0) u
+
+-- the root has room: there is at most a node for each frame and level
+pub root_room : {s : Same} {n k : ℕ} {xs ys ws : List ℕ} → k ≤ max_levels → CanBuild s n k xs ys ws → Room s n k 0 xs ys ws
+root_room {s} {n} {k} {xs} h r = record {
+  some = r.some;
+  few = r.few;
+  below = r.below;
+  sorting = r.sorting;
+  most = le_trans (size_le s k 0 xs r.some) (mul-le-mul {n₂ = max_frames} {m₂ = max_levels + 1} r.few (omega (arith, h)));
+  room = r.room;
+}
 
 -- of what is lent to sort in no more is needed
 pub room_cut : {s : Same} {n k l : ℕ} {xs ys ws : List ℕ} → Room s n k l xs ys ws → Room s n k l xs (take (length xs) ys) ws

@@ -12,7 +12,15 @@ max_levels = levels 10
 abbrev pub max_nodes : ℕ
 max_nodes = max_frames * (max_levels + 1)
 
--- room to build the tree of the frames xs, of level l, k levels above the last: as many words to sort them in, and its words
+-- what building the tree of the frames xs asks, with k levels below the root: as many words to sort them in, and its words
+pub record CanBuild (same : Same) (n k : ℕ) (xs scratch nodes : List ℕ) : Type 0 where
+  pub some : 0 < length xs
+  pub few : length xs ≤ max_frames
+  pub below : Below n xs
+  pub sorting : length xs ≤ length scratch
+  pub room : 4 * size same k 0 xs ≤ length nodes
+
+-- room to build a tree of level l, k levels above the last: the same, and its nodes can be counted
 pub record Room (same : Same) (n k l : ℕ) (xs scratch nodes : List ℕ) : Type 0 where
   pub some : 0 < length xs
   pub few : length xs ≤ max_frames

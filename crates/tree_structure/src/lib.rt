@@ -7,7 +7,7 @@ ghost use Rattle.lists.specs.Words.{over};
 ghost use Rattle.counting_tree.specs.Tree.{counted, first_of};
 ghost use Rattle.counting_tree.specs.Given.{geometry};
 ghost use Rattle.tree_structure.specs.Encode.{size, encode, TreeAt, TreesAt, told_of};
-ghost use Rattle.tree_structure.specs.Work.{Room};
+ghost use Rattle.tree_structure.specs.Work.{CanBuild, Room};
 
 mod level;
 mod node;
@@ -105,7 +105,7 @@ pub fn build_structure(
     scratch: &mut [Word],
     nodes: &mut [Word],
 ) -> usize
-    requires room { let g = geometry frames.now in Room g.same frames.now.n g.levels 0 members.now scratch.old nodes.old }
+    requires room { let g = geometry frames.now in CanBuild g.same frames.now.n g.levels members.now scratch.old nodes.old }
     requires copied { length members.now ≤ length copy.old }
     ensures size { let g = geometry frames.now in result ≡ size g.same g.levels 0 members.now }
     ensures words { let g = geometry frames.now in nodes.new ≡ over nodes.old 0 (encode g.same g.levels 0 members.now) }

@@ -22,7 +22,7 @@ returns-then-not-holds c =
     let a : Count (get_or F c.loop-k.k (pos 0)) = omega arith in
     let m = c.args.frames.now.ready.settings.scale.most in
     let l = c.frame-frame.ensures.long in
-    let n = same_next c.args.width c.args.first F c.args.m (omega (arith, m, l, c.well_formed.1.1.0.1.0.1)) (omega (arith, l, c.loop-k-test.true)) c.loop-k.k c.loop-k.auto.k (omega (arith, l, c.loop-k-test.true)) a c.holds.ensures in
+    let n = same_next c.args.width c.args.first F c.args.m (omega (arith, m, l, c.well_formed.1.1.0.1.0.1)) (omega (arith, l, c.loop-k-test.true)) c.loop-k.k c.loop-k.auto.k (omega (arith, l, c.loop-k-test.true)) a c.holds.ensures (grind arith) in
     sym (n ∙ ap (λ (t : Bool). t && same_from c.args.width c.args.first F c.args.m (c.loop-k.k + 1)) c.if-not-holds.true) ∙ c.loop-k.invariant
     ∙ same_first c.args.width c.args.first F c.args.m ∙ ap₂ (λ (f : Frame) (d : ℕ). same_nats (key_of c.args.width (drop 1 f)) (shifted c.args.width (take (d - 1) (drop 1 c.args.first)) c.args.m)) c.frame-frame.ensures.value l
 
@@ -32,7 +32,7 @@ loop-k-preserved c =
     let a : Count (get_or F c.loop-k.k (pos 0)) = omega arith in
     let m = c.args.frames.now.ready.settings.scale.most in
     let l = c.frame-frame.ensures.long in
-    let n = same_next c.args.width c.args.first F c.args.m (omega (arith, m, l, c.well_formed.1.1.0.1.0.1)) (omega (arith, l, c.loop-k-test.true)) c.loop-k.k c.loop-k.auto.k (omega (arith, l, c.loop-k-test.true)) a c.holds.ensures in
+    let n = same_next c.args.width c.args.first F c.args.m (omega (arith, m, l, c.well_formed.1.1.0.1.0.1)) (omega (arith, l, c.loop-k-test.true)) c.loop-k.k c.loop-k.auto.k (omega (arith, l, c.loop-k-test.true)) a c.holds.ensures (grind arith) in
     sym (n ∙ ap (λ (t : Bool). t && same_from c.args.width c.args.first F c.args.m (c.loop-k.k + 1)) c.if-not-holds.false) ∙ c.loop-k.invariant
 
 pub returns : goal.returns

@@ -1,12 +1,13 @@
 -- `build_structure` meets its contract: the root is of level 0, with all others below it, and the copy holds the same frames.
 use Rattle.counting_tree.specs.Ready.{at_levels}
-use Rattle.tree_structure.proofs.Building.{room_cut}
+use Rattle.tree_structure.proofs.Building.{root_room, room_cut}
+use Rattle.tree_structure.proofs.Levels.{few_levels}
 use Rattle.tree_structure.proofs.build_structure.Goals as goal
 
 pub build_node-size-requires : goal.build_node-size-requires
 build_node-size-requires c =
     let e = c.root.ensures in
-    record { room = rw (e.0, e.1, e.2, c.copy_from_slice.ensures.after) (room_cut (rw at_levels at c.requires.room)) }
+    record { room = rw (e.0, e.1, e.2, c.copy_from_slice.ensures.after) (room_cut (root_room (few_levels c.args.frames.now.ready) (rw at_levels at c.requires.room))) }
 
 pub returns-clause-size : goal.returns-clause-size
 returns-clause-size c =
