@@ -2,7 +2,7 @@
 use Prim.Native.Nat.{ℕ, ◌+◌, ◌-◌, ◌^◌, ◌≤◌}
 use mathlib.Core.Path.{◌≡◌, ap, ◌∙◌}
 use native.Mathlib.Omega.{arith}
-use lib.ListN.{length, get_or}
+use lib.ListN.{length}
 use Rattle.std.specs.Prelude.{Option}
 use Rattle.lists.specs.Words.{over}
 use Rattle.counting_tree.specs.declared.run.Frames.{Frames}
@@ -10,7 +10,6 @@ use Rattle.blocks.specs.Blocks.{own_row}
 use Rattle.cells_grid.specs.Listing.{reach_of, unmarked, list_from}
 use Rattle.cells_grid.specs.Passing.{left_of}
 use Rattle.cells_grid.specs.declared.listing.Passed.{Passed}
-use Rattle.cells_grid.proofs.SortedLaws.{places_length}
 use Rattle.cells_grid.proofs.CellSearch.{own_is, into_search, of_search}
 use Rattle.cells_grid.proofs.Gathering.{later_rows, later_few}
 use Rattle.cells_grid.proofs.sorted_cells.SortedCells.list_later.Goals as goal
