@@ -4,6 +4,7 @@ use native.Mathlib.Omega.{arith}
 use Rattle.lists.specs.Lists.{In}
 use Rattle.clustering.specs.Leading.{Leading}
 use Rattle.clustering.proofs.ByLists.{found_below, rows_skip, rows_on, rows_end, list_is}
+use Rattle.clustering.proofs.Clearing.{again_on, cleared}
 use Rattle.clustering.proofs.links.meet_stage.Goals as goal
 
 pub meet_list-requires : goal.meet_list-requires
@@ -27,6 +28,7 @@ loop-c-preserved-then-has_core g c =
       rows = rows_on c.loop-c.invariant.rows c.requires.cells.1 (omega (arith, s, c.loop-c.invariant.end)) s.1.1 s.1.2 c.has_core.ensures c.if-has_core.true
           (list_is c.sorted-sorted.ensures.0 c.args.marks.now c.loop-c.list c.in-Some.c c.list_later-m.ensures.value c.list_later-m.ensures.list) c.meet_list.ensures;
       end = s.0 ∙ c.loop-c.invariant.end;
+      list = again_on c.loop-c.invariant.list (cleared _ c.list_later-m.ensures.value c.list_later-m.ensures.list c.list_later-m.auto.list (c.fill.ensures.after (λ y h. h)));
     }
 
 pub loop-c-preserved : goal.loop-c-preserved
@@ -34,7 +36,8 @@ loop-c-preserved g c =
     let s = c.in-Some.ensures.steps in record {
       rows = rows_skip c.loop-c.invariant.rows c.requires.cells.1 (omega (arith, s, c.loop-c.invariant.end)) s.1.1 s.1.2 c.has_core.ensures c.if-has_core.false;
       end = s.0 ∙ c.loop-c.invariant.end;
+      list = c.loop-c.invariant.list;
     }
 
 pub returns : goal.returns
-returns g c = let s = c.in-None.ensures.steps in rows_end c.loop-c.invariant.rows (omega (arith, s, c.loop-c.invariant.end))
+returns g c = let s = c.in-None.ensures.steps in record { leaders = rows_end c.loop-c.invariant.rows (omega (arith, s, c.loop-c.invariant.end)); list = c.loop-c.invariant.list }

@@ -15,8 +15,8 @@ asked_at_last-requires c =
       omega (arith, e.1, r.few, c.requires.sizes.1),
     )
 
-pub returns : goal.returns
-returns c =
+pub returns-clause-words : goal.returns-clause-words
+returns-clause-words c =
     let r = c.requires.cells in
     let a = c.split_at_mut-leaders.ensures in
     let b = c.split_at_mut-runs.ensures in
