@@ -16,6 +16,20 @@ use Rattle.cells_grid.specs.Arrangement.{Arranged}
 use Rattle.cells_grid.proofs.ArrangementLaws.{arranged_front}
 
 module _ (h : List ℕ) (n : ℕ) (fit : 24 * n ≤ length h) where
+  -- the sorted frames, where they stand among all the words
+  module _ (size : ℕ) (room : 10 * n ≤ size) where
+    in_words : (b m : ℕ) → b + m ≤ 10 * n → part (take size (drop (14 * n) h)) b m ≡ part h (14 * n + b) m
+    in_words b m l = part_part h (14 * n) size b m (omega arith)
+
+    pub sorted_words : {key : ℕ → ℕ} → Sorted key n (8 * n) (16 * n) (14 * n) h → Sorted key n (8 * n) (2 * n) 0 (take size (drop (14 * n) h))
+    sorted_words S =
+        let a : 14 * n + 0 ≡ 14 * n = omega arith in
+        let b : 14 * n + 2 * n ≡ 16 * n = omega arith in
+        record {
+          numbers = in_words 0 n (omega arith) ∙ ap (λ (x : ℕ). part h x n) a ∙ S.numbers;
+          ends = in_words (2 * n) (8 * n) (omega arith) ∙ ap (λ (x : ℕ). part h x (8 * n)) b ∙ S.ends;
+        }
+
   -- the cells
   module _ (low cells : List ℕ) (el : low ≡ take (10 * n) h) (ec : cells ≡ take (4 * n) low) where
     pub cells_arranged : {g : Geometry} {k : ℕ} → g.frames ≡ n → Arranged g k h → Arranged g k cells
@@ -32,21 +46,12 @@ module _ (h : List ℕ) (n : ℕ) (fit : 24 * n ≤ length h) where
 
     -- the sorted frames
     module _ (rest : List ℕ) (er : rest ≡ drop n high) where
-      in_sorted : (b m : ℕ) → b + m ≤ 10 * n → part (take (13 * n - 3 * n) (drop (3 * n) rest)) b m ≡ part h (14 * n + b) m
-      in_sorted b m l =
-          let z : 10 * n + (n + 3 * n) ≡ 14 * n = omega arith in
-          ap (λ (x : List ℕ). part (take (13 * n - 3 * n) x) b m)
-          (ap (drop (3 * n)) (er ∙ ap (drop n) eh) ∙ drop-drop (3 * n) n (drop (10 * n) h) ∙ drop-drop (n + 3 * n) (10 * n) h ∙ ap (λ (x : ℕ). drop x h) z)
-          ∙ part_part h (14 * n) (13 * n - 3 * n) b m (omega arith)
-
       pub sorted_slice : {key : ℕ → ℕ} → Sorted key n (8 * n) (16 * n) (14 * n) h → Sorted key n (8 * n) (2 * n) 0 (take (13 * n - 3 * n) (drop (3 * n) rest))
-      sorted_slice S =
-          let a : 14 * n + 0 ≡ 14 * n = omega arith in
-          let b : 14 * n + 2 * n ≡ 16 * n = omega arith in
-          record {
-            numbers = in_sorted 0 n (omega arith) ∙ ap (λ (x : ℕ). part h x n) a ∙ S.numbers;
-            ends = in_sorted (2 * n) (8 * n) (omega arith) ∙ ap (λ (x : ℕ). part h x (8 * n)) b ∙ S.ends;
-          }
+      sorted_slice {key} S =
+          let z : 10 * n + (n + 3 * n) ≡ 14 * n = omega arith in
+          subst (λ (x : List ℕ). Sorted key n (8 * n) (2 * n) 0 (take (13 * n - 3 * n) x))
+          (sym (ap (drop (3 * n)) (er ∙ ap (drop n) eh) ∙ drop-drop (3 * n) n (drop (10 * n) h) ∙ drop-drop (n + 3 * n) (10 * n) h ∙ ap (λ (x : ℕ). drop x h) z))
+          (sorted_words (13 * n - 3 * n) (omega arith) S)
 
 -- put together again, with which frames are core laid after the cells
 pub put_together : (h low high cells cores told rest : List ℕ) (n : ℕ) → length low ≡ 10 * n → h ≡ low ++ high → high ≡ told ++ rest → cells ≡ take (4 * n) low → cores ≡ drop (4 * n) low

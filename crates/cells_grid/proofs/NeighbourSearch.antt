@@ -1,19 +1,17 @@
 -- A search for neighbours is one for the reach t: what its rows say, for that reach.
 use mathlib.Core.Path.{◌≡◌, sym, ap, ap₂, subst, ◌∙◌}
-use mathlib.Core.Bool.{Bool}
 use mathlib.Core.List.{List, ◌++◌}
 use Prim.Native.Nat.{ℕ, ◌+◌, ◌-◌, ◌*◌, ◌%◌, ◌^◌, ◌≤◌, min}
-use lib.ListN.{length, take}
-use Rattle.lists.specs.Words.{part}
+use lib.ListN.{length, take, replicate}
+use Rattle.lists.specs.Words.{over, part}
 use lib.IntN.{ℤ}
 use Rattle.lists.specs.Sorting.{Sorted}
 use Rattle.hyperparams.specs.declared.ValidParams.{ValidParams}
-use Rattle.cells_grid.specs.Cells.{first}
 use Rattle.lists.specs.Lists.{how_many, Below}
-use Rattle.counting_tree.specs.Given.{geometry}
-use Rattle.counting_tree.specs.Ready.{geometry_at, at_least}
+use Rattle.counting_tree.specs.Given.{geometry, frame_of}
+use Rattle.counting_tree.specs.Ready.{at_least}
 use Rattle.blocks.specs.declared.Stretch.{Stretch}
-use Rattle.blocks.specs.Blocks.{same_nats, row_of, row_around, own_row, bucket_around, stretch_in}
+use Rattle.blocks.specs.Blocks.{width, edges_of, own_row, bucket_around, stretch_in}
 use Rattle.blocks.specs.OwnRowLaws.{own_which}
 use Rattle.cells_grid.specs.Crowding.{frame_key, frames_near, neighbour_in, neighbours_in}
 use Rattle.cells_grid.specs.Pairs.{row_for}
@@ -47,17 +45,17 @@ module _ (s : Search) where
       let a = s.around.frames.now in let f = s.sorted.grid.frames in
       subst (λ (v : ValidParams). P v a.n a.points.now) (sym s.same.0) (subst (λ (n : ℕ). P f.v n a.points.now) (sym s.same.1) (subst (P f.v f.n) (sym s.same.2) p))
 
+  -- and the other way
+  pub back : (P : ValidParams → ℕ → List ℤ → Type 0) → (let f = s.around.frames.now in P f.v f.n f.points.now) → let f = s.sorted.grid.frames in P f.v f.n f.points.now
+  back P p =
+      let a = s.around.frames.now in let f = s.sorted.grid.frames in
+      subst (P f.v f.n) s.same.2 (subst (λ (n : ℕ). P f.v n a.points.now) s.same.1 (subst (λ (v : ValidParams). P v a.n a.points.now) s.same.0 p))
+
   pub by_block : let f = s.around.frames.now in Sorted (frame_key f.v f.n f.points.now) f.n (8 * f.n) (2 * f.n) 0 s.sorted.sorted.now
   by_block = moved (λ v n ps. Sorted (frame_key v n ps) n (8 * n) (2 * n) 0 s.sorted.sorted.now) s.sorted.by_block
 
-  pub first_is : (j : ℕ) {x : ℕ} → x ≡ first (geometry s.sorted.grid.frames) j → x ≡ first (geometry s.around.frames.now) j
-  first_is j {x} = moved (λ v n ps. x ≡ first (geometry_at v n ps) j)
-
-  pub row_is : (m j : ℕ) {b : Bool} → (let a = s.around in let f = a.frames.now in b ≡ same_nats (row_of a.reach f.v f.n f.points.now j) (row_around a.reach f.v f.n f.points.now a.i m))
-      → let a = s.around in let f = a.frames.now in b ≡ same_nats (row_of f.v.t f.v f.n f.points.now j) (row_around f.v.t f.v f.n f.points.now a.i m)
-  row_is m j q =
-      let a = s.around in let f = a.frames.now in
-      q ∙ ap (λ (z : ℕ). same_nats (row_of z f.v f.n f.points.now j) (row_around z f.v f.n f.points.now a.i m)) s.reach_is
+  pub begin_is : let a = s.around in let f = a.frames.now in a.first ≡ over (replicate 4 0) 0 (edges_of (width f.v.t) f.v.t (frame_of f a.i))
+  begin_is = let a = s.around in a.begin ∙ ap (λ (z : ℕ). over (replicate 4 0) 0 (edges_of (width z) z (frame_of a.frames.now a.i))) s.reach_is
 
   pub own_is : {r : ℕ} → (let a = s.around in let f = a.frames.now in r ≡ own_row a.reach f.v f.n f.points.now a.i) → let a = s.around in let f = a.frames.now in r ≡ row_for f.v f.n f.points.now a.i a.i
   own_is q =

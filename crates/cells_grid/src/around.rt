@@ -16,7 +16,7 @@ pub(crate) struct Around<'a> {
     pub(crate) frames: &'a Frames<'a>,
     pub(crate) i: usize,
     pub(crate) reach: u64,
-    first: [u64; 4],
+    pub(crate) first: [u64; 4],
     hashes: [u64; 8],
     along: usize,
     ghost inside: { i < frames.now.n },

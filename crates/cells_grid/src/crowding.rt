@@ -1,13 +1,16 @@
 // Whether a frame has enough frames near it. All frames are sorted by blocks 2 × t + 1 wide: so the frames within the tolerance of a frame lie in the rows around it.
-ghost use Rattle.std.specs.Prelude.{◌≡◌, ◌++◌, ◌+◌, ◌-◌, ◌*◌, ◌^◌, ◌<◌, ◌≤◌, min, leb, length};
+ghost use Rattle.std.specs.Prelude.{◌≡◌, ◌++◌, ◌+◌, ◌-◌, ◌*◌, ◌^◌, ◌<◌, ◌≤◌, min, leb, length, replicate};
 ghost use Rattle.lists.specs.Lists.{numbers, how_many, Below};
-ghost use Rattle.lists.specs.Words.{Clear};
-ghost use Rattle.counting_tree.specs.Given.{geometry};
-ghost use Rattle.blocks.specs.Blocks.{sorted_by};
+ghost use Rattle.lists.specs.Sorting.{Sorted};
+ghost use Rattle.lists.specs.Words.{over, Clear};
+ghost use Rattle.counting_tree.specs.Given.{geometry, frame_of};
+ghost use Rattle.blocks.specs.Blocks as Blocks;
+ghost use Rattle.blocks.specs.Blocks.{edges_of, sorted_by};
 ghost use Rattle.cells_grid.specs.Cells as Cells;
 ghost use Rattle.cells_grid.specs.Cells.{neighbour};
 ghost use Rattle.cells_grid.specs.Crowding.{frame_key, frames_near, neighbour_in, neighbours_in};
 
+use crate::CellsGrid;
 use crate::around::Around;
 use crate::sorted::SortedFrames;
 use counting_tree::Frames;
@@ -24,7 +27,7 @@ pub const WORDS: usize = ENDS + BUCKETS - blocks::PLACES;
 // Among the sorted frames and what is beside them those ends stand from 2n on.
 pub(crate) const SORTED_ENDS: usize = ENDS - blocks::PLACES;
 
-// Sorts all frames by the buckets of their blocks.
+// Sorts all frames by the buckets of their blocks: after it `crowded` can be asked.
 pub fn sort_frames(frames: &Frames, work: &mut [Word])
     requires { let f = frames.now in (24 * f.n ≤ length work.old) × Clear work.old (14 * f.n) (10 * f.n) }
     ensures { let f = frames.now in work.new ≡ sorted_by (frame_key f.v f.n f.points.now) f.n (8 * f.n) (16 * f.n) f.n work.old }
@@ -39,6 +42,43 @@ pub fn sort_frames(frames: &Frames, work: &mut [Word])
     }
     lists::sorting::sort(keys, &mut ends[..BUCKETS * n], places);
     keys.fill(0);
+}
+
+// Whether the cells on the list of frame i's cell hold `min_points` frames within the tolerance of frame i, where the words of the cells hold the sorted frames too.
+pub fn crowded(grid: &CellsGrid, i: usize) -> bool
+    requires ready { i < grid.now.frames.n }
+    requires by_block { let f = grid.now.frames in Sorted (frame_key f.v f.n f.points.now) f.n (8 * f.n) (16 * f.n) (14 * f.n) grid.now.work.now × (24 * f.n ≤ length grid.now.work.now) }
+    ensures { let f = grid.now.frames in result ≡ leb (geometry f).least (how_many (neighbour (geometry f) i) (numbers f.n)) }
+{
+    let n = grid.frames.n;
+    let sorted = SortedFrames {
+        grid: *grid,
+        sorted: &grid.work[blocks::PLACES * n..(blocks::PLACES + WORDS) * n],
+    };
+    sorted.is_crowded(i)
+}
+
+// Whether frame j is a neighbour of frame i in row m of those that begin at `first`; `own` is the first frame of frame i's cell.
+// (Nearly all frames of a stretch lie in the row, so the distance is asked first.)
+#[inline(always)]
+pub fn is_neighbour(
+    grid: &CellsGrid,
+    first: [u64; 4],
+    m: usize,
+    own: usize,
+    i: usize,
+    j: usize,
+) -> bool
+    requires ready { let f = grid.now.frames in (i < f.n) × (own ≡ Cells.first (geometry f) i) }
+    requires first_value { let f = grid.now.frames in (first ≡ over (replicate 4 0) 0 (edges_of (Blocks.width f.v.t) f.v.t (frame_of f i))) × Below 65536 first }
+    requires j_lt_n { j < grid.now.frames.n }
+    ensures { let f = grid.now.frames in result ≡ neighbour_in f.v f.n f.points.now i m j }
+{
+    let frames = &grid.frames;
+    let width = blocks::width(frames.v.t);
+    frames.within(i, j)
+        && blocks::in_row(frames, width, first, m, j)
+        && frames.near_cells(own, grid.own_first(j))
 }
 
 // A search for the neighbours of a frame: the rows around it, and the first frame of its cell.
@@ -68,15 +108,12 @@ impl<'a> Search<'a> {
     }
 
     // Whether frame j is a neighbour, and in row m.
-    // (Nearly all frames of a stretch lie in the row, so the distance is asked first.)
     pub(crate) fn is_neighbour(&self, m: usize, j: usize) -> bool
         requires { j < self.now.around.frames.now.n }
         ensures { let a = self.now.around in let f = a.frames.now in result ≡ neighbour_in f.v f.n f.points.now a.i m j }
     {
-        let frames = self.around.frames;
-        frames.within(self.around.i, j)
-            && self.around.has(m, j)
-            && frames.near_cells(self.own, self.sorted.grid.own_first(j))
+        let around = &self.around;
+        is_neighbour(&self.sorted.grid, around.first, m, self.own, around.i, j)
     }
 
     // The sorted frames of row m, in two stretches.

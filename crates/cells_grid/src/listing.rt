@@ -6,7 +6,7 @@ ghost use Rattle.counting_tree.specs.Given.{geometry};
 ghost use Rattle.blocks.specs.Blocks.{sorted_by};
 ghost use Rattle.cells_grid.specs.Cells.{cells, core_cell};
 ghost use Rattle.cells_grid.specs.Arrangement.{cell_at, Arranged};
-ghost use Rattle.cells_grid.specs.Listing.{reach_of, cell_key, near_in, near_by, list_in, list_from, list_of, later_of, cell_ends, cell_places, unlike, Marked};
+ghost use Rattle.cells_grid.specs.Listing.{reach_of, cell_key, near_in, near_by, list_in, list_from, list_of, later_of, cell_ends, cell_places, unmarked, MarkedRuns};
 ghost use Rattle.cells_grid.specs.Passing.{Passes, Passes_prop, left_of, passed_at};
 
 use crate::SortedCells;
@@ -17,6 +17,12 @@ use lists::Word;
 
 // From 5n on: a word on the tree of each cell, 0 where it is no core cell.
 pub const TREES: usize = 5;
+
+// From 8n on, where marks are given: how many of the sorted cells right after each one have its mark. So these are passed at once.
+pub const RUNS: usize = 8;
+
+// From 15n on: the list of one cell.
+pub const LIST: usize = 15;
 
 // From 10n on stands where the cells of each bucket end, four words a cell: in all one more than there are buckets, for the cells that are not core.
 pub const ENDS: usize = 10;
@@ -70,7 +76,7 @@ pub fn sort_cells(frames: &Frames, k: usize, work: &mut [Word])
 struct Passed<'a> {
     marks: &'a [Word],
     runs: &'a [Word],
-    mark: Word,
+    mark: usize,
 }
 
 // A search for the core cells whose first frames lie near a frame, but for those that are passed.
@@ -112,7 +118,7 @@ impl<'a> Search<'a> {
         ensures upper_bound { result ≤ 65536 }
     {
         match self.passed {
-            Some(passed) if passed.marks[d] == passed.mark => 1 + passed.runs[p] as usize,
+            Some(passed) if passed.marks[d] as usize == passed.mark => 1 + passed.runs[p] as usize,
             _ => 0,
         }
     }
@@ -195,19 +201,23 @@ impl<'a> Search<'a> {
 }
 
 impl SortedCells<'_> {
-    // Of the core cells that cell c lists and that have another mark, writes those in the rows from its own on, and of its own row those after c. Returns how many there are.
+    // Of the core cells that cell c lists and whose mark is not `mark`, writes those in the rows from its own on, and of its own row those after c. Returns how many there are.
     // (Of two cells that list each other one finds the other so: the other need not look for it.)
-    pub fn list_later(&self, marks: &[Word], runs: &[Word], c: usize, list: &mut [Word]) -> usize
+    pub fn list_later(
+        &self,
+        marks: &[Word],
+        runs: &[Word],
+        mark: usize,
+        c: usize,
+        list: &mut [Word],
+    ) -> usize
         requires cell { (c < self.now.grid.k) × (self.now.grid.k ≤ length list.old) }
-        requires marks { Marked self.now.places.now marks.now runs.now }
-        ensures value { let f = self.now.grid.frames in result ≡ length (unlike marks.now (later_of f.v f.n f.points.now) c) }
-        ensures list { let f = self.now.grid.frames in list.new ≡ over list.old 0 (unlike marks.now (later_of f.v f.n f.points.now) c) }
+        requires lengths { let zs = self.now.places.now in (length marks.now ≡ length zs) × (length runs.now ≡ length zs) }
+        requires marked_runs { MarkedRuns self.now.places.now marks.now runs.now mark }
+        ensures value { let f = self.now.grid.frames in result ≡ length (unmarked marks.now mark (later_of f.v f.n f.points.now c)) }
+        ensures list { let f = self.now.grid.frames in list.new ≡ over list.old 0 (unmarked marks.now mark (later_of f.v f.n f.points.now c)) }
     {
-        let passed = Passed {
-            marks,
-            runs,
-            mark: marks[c],
-        };
+        let passed = Passed { marks, runs, mark };
         let search = Search::new(self, self.grid.first_of(c), Some(passed));
         search.list_rows(search.around.own_row(), c + 1, list)
     }

@@ -22,7 +22,7 @@ pub(crate) struct SortedFrames<'a, 'b> {
 
 impl SortedFrames<'_, '_> {
     // Whether the cells on the list of frame i's cell hold `min_points` frames within the tolerance of frame i.
-    fn is_crowded(&self, i: usize) -> bool
+    pub(crate) fn is_crowded(&self, i: usize) -> bool
         requires { i < self.now.grid.frames.n }
         ensures { let f = self.now.grid.frames in result ≡ leb (geometry f).least (how_many (neighbour (geometry f) i) (numbers f.n)) }
     {

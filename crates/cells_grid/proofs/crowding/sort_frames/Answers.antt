@@ -1,5 +1,4 @@
 -- The keys are written, the frames sorted by them, and the keys cleared.
-use mathlib.Core.Path.{refl}
 use native.Mathlib.Nat.{zero-add}
 use mathlib.Core.Path.{sym}
 use native.Mathlib.Omega.{arith}

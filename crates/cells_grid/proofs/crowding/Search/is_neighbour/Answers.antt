@@ -1,29 +1,26 @@
--- The tests in turn: the tolerance, the row, the list of the frame's cell.
-use mathlib.Core.Path.{sym, subst, ◌∙◌}
-use native.Mathlib.Omega.{arith}
-use lib.Dec.{T}
-use Rattle.cells_grid.proofs.Neighbours.{own_below, tests_row, tests_within, tests_list}
-use Rattle.cells_grid.proofs.NeighbourSearch.{row_is, first_is}
+-- The frames of the cells are those of the rows, and the reach is the tolerance.
+use mathlib.Core.Path.{◌≡◌}
+use Prim.Native.Nat.{◌<◌}
+use Rattle.lists.specs.Lists.{Below}
+use Rattle.lists.specs.Words.{over}
+use lib.ListN.{replicate}
+use Rattle.counting_tree.specs.Ready.{geometry_at}
+use Rattle.blocks.specs.Blocks.{width, edges_of, frame_at}
+use Rattle.cells_grid.specs.Cells.{first}
+use Rattle.cells_grid.specs.Crowding.{neighbour_in}
+use Rattle.cells_grid.proofs.NeighbourSearch.{moved, back, begin_is}
 use Rattle.cells_grid.proofs.crowding.Search.is_neighbour.Goals as goal
-use Rattle.cells_grid.proofs.crowding.Search.is_neighbour.Goals.{then-within, else-within}
 
-pub near_cells-requires : goal.near_cells-requires
-near_cells-requires c = let s = c.args.self.now in (own_below s.around.frames.now.ready s.around.inside s.own_is, omega (arith, c.own_first.ensures.bound, s.same.1))
+pub is_neighbour-requires-clause-ready : goal.is_neighbour-requires-clause-ready
+is_neighbour-requires-clause-ready c = let s = c.args.self.now in back s (λ v n ps. (s.around.i < n) × (s.own ≡ first (geometry_at v n ps) s.around.i)) (s.around.inside, s.own_is)
 
-pub returns-then-has : goal.returns-then-has
-returns-then-has c =
-    let s = c.args.self.now in let a = s.around in let f = a.frames.now in
-    elim c.if-within.branch [
-      | then-within w ↦
-          tests_list f.v f.n f.points.now a.i c.args.m c.args.j (row_is s c.args.m c.args.j w.has.ensures) (sym w.value-is ∙ c.if-has.true) c.within.ensures w.if-within.true s.own_is
-          (first_is s c.args.j c.own_first.ensures.value) c.near_cells.ensures
-      | else-within w ↦ absurd (subst T (sym c.if-has.true ∙ w.value-is ∙ w.if-within.false) tt)
-    ]
+pub is_neighbour-requires-clause-first_value : goal.is_neighbour-requires-clause-first_value
+is_neighbour-requires-clause-first_value c =
+    let s = c.args.self.now in
+    back s (λ v n ps. (s.around.first ≡ over (replicate 4 0) 0 (edges_of (width v.t) v.t (frame_at v.t v n ps s.around.i))) × Below 65536 s.around.first) (begin_is s, s.around.small)
 
-pub returns-else-has : goal.returns-else-has
-returns-else-has c =
-    let s = c.args.self.now in let a = s.around in let f = a.frames.now in
-    c.if-has.false ∙ elim c.if-within.branch [
-      | then-within w ↦ tests_row f.v f.n f.points.now a.i c.args.m c.args.j (row_is s c.args.m c.args.j w.has.ensures) (sym w.value-is ∙ c.if-has.false)
-      | else-within w ↦ tests_within f.v f.n f.points.now a.i c.args.m c.args.j c.within.ensures w.if-within.false
-    ]
+pub is_neighbour-requires-clause-j_lt_n : goal.is_neighbour-requires-clause-j_lt_n
+is_neighbour-requires-clause-j_lt_n c = let s = c.args.self.now in back s (λ v n ps. c.args.j < n) c.requires
+
+pub returns : goal.returns
+returns c = let s = c.args.self.now in moved s (λ v n ps. c.is_neighbour.result ≡ neighbour_in v n ps s.around.i c.args.m c.args.j) c.is_neighbour.ensures
