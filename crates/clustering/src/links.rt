@@ -63,7 +63,8 @@ pub(crate) fn meet_stage<L: Links>(
     let sorted = cells.sorted();
     for c in stage {
         if cells.core.has_core(c) {
-            let m = sorted.list_later(marks, runs, c, list);
+            let mark = marks[c] as usize;
+            let m = sorted.list_later(marks, runs, mark, c, list);
             meet_list(links, leaders, c, &list[..m]);
             list[..m].fill(0);
         }

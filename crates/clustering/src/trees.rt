@@ -16,7 +16,8 @@ use crate::linking::core_frame;
 use crate::links::{Links, meet_stage};
 use crate::marks::mark_cells;
 use crate::regions::listed_cells;
-use crate::{LEADERS, ListedCells};
+use crate::uniting::MARKS;
+use crate::{LABELS, LEADERS, ListedCells};
 use cells_grid::CellsGrid;
 use cells_grid::listing::ENDS;
 use core_cells::{CoreCells, NODES, PATHS};
@@ -107,7 +108,8 @@ fn some_ask(cells: &ListedCells, marks: &[Word], runs: &[Word], list: &mut [Word
     let sorted = cells.sorted();
     for c in 0..cells.core.grid.k {
         if cells.core.has_core(c) {
-            let m = sorted.list_later(marks, runs, c, list);
+            let mark = marks[c] as usize;
+            let m = sorted.list_later(marks, runs, mark, c, list);
             let ask = asks_trees(&cells.core, c, &list[..m]);
             list[..m].fill(0);
             if ask {
@@ -168,8 +170,8 @@ fn asked_words<'a>(
 {
     let n = frames.n;
     let cells = listed_cells(frames, k, work, sorted, nodes);
-    let (leaders, rest) = words.split_at_mut(2 * n);
-    let (runs, marks) = rest.split_at_mut(n);
+    let (leaders, rest) = words.split_at_mut((LABELS - LEADERS) * n);
+    let (runs, marks) = rest.split_at_mut((MARKS - LABELS) * n);
     asked_at_last(
         &cells,
         &mut leaders[..k],
