@@ -18,9 +18,10 @@ use Rattle.counting_tree.specs.Geometry.{Geometry}
 use Rattle.counting_tree.specs.Given.{geometry}
 use Rattle.cells_grid.specs.Cells.{cells, core_cell}
 use Rattle.cells_grid.specs.Arrangement.{cell_at}
-use Rattle.cells_grid.specs.Listing.{later_of, unlike}
+use Rattle.cells_grid.specs.Listing.{cell_places, later_of, unlike, Marked}
 use Rattle.cells_grid.specs.declared.grid.CellsGrid.{CellsGrid}
 use Rattle.cells_grid.proofs.ListingLaws.{in_unmarked, later_sound}
+use Rattle.cells_grid.proofs.SortedLaws.{places_length}
 use Rattle.partitions.specs.TrialLaws.{Within}
 use Rattle.clustering.specs.Uniting.{pair_at, pairs_with}
 use Rattle.clustering.proofs.UnitingLaws.{parts_pair, with_none}
@@ -120,6 +121,10 @@ module _ {s : CellsGrid} {link : ℕ → ℕ → Bool} {ms : List ℕ} {from to 
 -- ---- a list that is written, of cells t, is that of the same cells s
 abbrev found : CellsGrid → List ℕ → ℕ → List ℕ
 found s ms = unlike ms (later_of s.frames.v s.frames.n s.frames.points.now)
+
+-- each cell has a mark
+pub marked_low : (s : CellsGrid) {zs ms rs : List ℕ} → zs ≡ cell_places s.frames.v s.frames.n s.frames.points.now → Marked zs ms rs → {c : ℕ} → c < s.k → c < length ms
+marked_low s ez m h = omega (arith, h, m.marks, ap length ez, places_length s.frames.ready, s.arranged.count)
 
 pub list_is : {s t : CellsGrid} → t ≡ s → (ms xs : List ℕ) (c : ℕ) {ys : List ℕ} {m : ℕ} → m ≡ length (unlike ms (later_of t.frames.v t.frames.n t.frames.points.now) c)
     → ys ≡ over xs 0 (unlike ms (later_of t.frames.v t.frames.n t.frames.points.now) c) → take m ys ≡ unlike ms (later_of s.frames.v s.frames.n s.frames.points.now) c

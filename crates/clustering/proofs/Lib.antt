@@ -11,6 +11,7 @@ pub mod Flat
 pub mod Marking
 pub mod Stages
 pub mod Phases
+pub mod Clearing
 pub mod Asking
 pub mod Numbered
 pub mod Bordering

@@ -6,7 +6,7 @@ use Prim.Native.Nat.{ℕ, ◌+◌, ◌<◌, ◌≤◌}
 use native.Mathlib.Omega.{arith}
 use lib.ListN.{length, get_or, set}
 use borrow.Author.Tests.{eq-eqb, ne_eqb}
-use Rattle.lists.specs.Lists.{numbers, how_many}
+use Rattle.lists.specs.Lists.{numbers, how_many, nonzero}
 use Rattle.lists.specs.Words.{column}
 use Rattle.lists.specs.ListLaws.{true_T, T_true, at_numbers, length_numbers}
 use Rattle.lists.specs.OrderLaws.{many_snoc, kept_le}
@@ -15,7 +15,10 @@ use Rattle.lists.proofs.PartLaws.{get_laid}
 use Rattle.lists.proofs.LoopLaws.{Fill, fill_start, fill_step, fill_end}
 use Rattle.clustering.specs.Numbering.{Led, leads, number_by}
 
--- the lowest cells that the words ls hold
+-- which cells are core cells by the words on their trees, and the lowest cells that the words ls hold
+abbrev pub core_in : List ℕ → ℕ → Bool
+core_in ts c = nonzero (get_or ts c 0)
+
 abbrev pub held_in : List ℕ → ℕ → ℕ
 held_in ls c = get_or ls c 0
 

@@ -8,7 +8,7 @@ use lib.Seq.{drop-append-add, take-append-add}
 use Rattle.std.proofs.Common.{append_assoc}
 use Rattle.std.proofs.lemmas.List.{drop-append-le, take-append-le}
 use Rattle.lists.specs.Words.{over}
-use Rattle.lists.proofs.WordLaws.{over_at, over_length, over_apart}
+use Rattle.lists.proofs.WordLaws.{over_length, over_apart}
 
 -- words laid in the front of a list, and in its back
 pub over_front : (xs ys : List ℕ) (a : ℕ) (ws : List ℕ) → a + length ws ≤ length xs → over xs a ws ++ ys ≡ over (xs ++ ys) a ws
@@ -88,23 +88,12 @@ module _ {n : ℕ} {w G W S X N : List ℕ} (p : Parts n w G W S X N) where
   total = ap length p.whole ∙ omega (arith, length-append G (W ++ (S ++ (X ++ N))), length-append W (S ++ (X ++ N)), length-append S (X ++ N), length-append X N, p.front, p.words, p.sorted, p.list)
 
   abbrev zeros : List ℕ
-  zeros = replicate (6 * n) 0
+  zeros = replicate (5 * n) 0
 
-  -- the words after the region, cleared, whatever stood there
-  gone : (A S' X' : List ℕ) → length A ≡ 4 * n → length S' ≡ 5 * n → length X' ≡ n → over (G ++ (A ++ (S' ++ (X' ++ N)))) (10 * n) zeros ≡ (G ++ A) ++ zeros ++ N
-  gone A S' X' a s x =
-      let e : G ++ (A ++ (S' ++ (X' ++ N))) ≡ (G ++ A) ++ (S' ++ X') ++ N =
-      sym (append_assoc G A (S' ++ (X' ++ N))) ∙ ap (λ (z : List ℕ). (G ++ A) ++ z) (sym (append_assoc S' X' N)) ∙ sym (append_assoc (G ++ A) (S' ++ X') N) in
-      ap (λ (z : List ℕ). over z (10 * n) zeros) e
-      ∙ over_at (G ++ A) (S' ++ X') zeros N (10 * n) (omega (arith, length-append G A, p.front)) (length-replicate {A = ℕ} (6 * n) 0 ∙ omega (arith, length-append S' X'))
-
-  -- the whole, put together with layers laid in the region and another list, and cleared after it
-  pub together : (ls : Layers) → Fit n ls → {W' : List ℕ} (X' : List ℕ) {F : List ℕ} → W' ≡ in_region ls W → length X' ≡ n → F ≡ over (G ++ (W' ++ (S ++ (X' ++ N)))) (10 * n) zeros → F ≡ in_whole ls (over w (10 * n) zeros)
-  together ls f {W'} X' e x eF =
-      let a : length (in_region ls W) ≡ 4 * n = region_length n ls f W (omega (arith, p.words)) ∙ p.words in
+  -- the whole, put together with layers laid in the region, and the words of the sorted cells cleared
+  pub together : (ls : Layers) → Fit n ls → {W' X' F : List ℕ} → W' ≡ in_region ls W → X' ≡ X → F ≡ over (G ++ (W' ++ (S ++ (X' ++ N)))) (10 * n) zeros → F ≡ in_whole ls (over w (10 * n) zeros)
+  together ls f e x eF =
       eF
-      ∙ ap (λ (z : List ℕ). over (G ++ (z ++ (S ++ (X' ++ N)))) (10 * n) zeros) e
-      ∙ gone (in_region ls W) S X' a p.sorted x
-      ∙ sym (gone (in_region ls W) S X a p.sorted p.list)
+      ∙ ap₂ (λ (y z : List ℕ). over (G ++ (y ++ (S ++ (z ++ N)))) (10 * n) zeros) e x
       ∙ ap (λ (z : List ℕ). over z (10 * n) zeros) (put_back n G (S ++ (X ++ N)) p.front ls f W (omega (arith, p.words)) ∙ ap (in_whole ls) (sym p.whole))
-      ∙ clear_first n zeros ls f w (omega (arith, total, length-replicate {A = ℕ} (6 * n) 0))
+      ∙ clear_first n zeros ls f w (omega (arith, total, length-replicate {A = ℕ} (5 * n) 0))

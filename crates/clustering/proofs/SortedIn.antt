@@ -1,5 +1,5 @@
 -- The words of a run once its cells are sorted: the slices that hold the cells, and the words as they were once what is sorted is cleared.
-use mathlib.Core.Path.{◌≡◌, sym, ap, ◌∙◌, subst}
+use mathlib.Core.Path.{◌≡◌, sym, ap, ap₂, ◌∙◌, subst}
 use mathlib.Core.Logic.{inr}
 use mathlib.Core.List.{List}
 use Prim.Native.Nat.{ℕ, ◌+◌, ◌-◌, ◌*◌, ◌<◌, ◌≤◌}
@@ -11,6 +11,7 @@ use Rattle.lists.specs.Lists.{nonzero}
 use Rattle.lists.specs.Words.{over, part, column, Clear, Apart}
 use Rattle.lists.specs.Sorting.{places_of, start_of}
 use Rattle.lists.proofs.WordLaws.{over_length}
+use Rattle.lists.proofs.PartLaws.{part_at, clear_after, clear_within}
 use Rattle.hyperparams.specs.declared.ValidParams.{ValidParams}
 use Rattle.counting_tree.specs.Ready.{geometry_at, Ready, at_frames}
 use Rattle.blocks.specs.Blocks.{sorted_by}
@@ -55,24 +56,35 @@ module _ {ps : List ℤ} {v : ValidParams} {n : ℕ} (r : Ready ps v n) {k : ℕ
         grown_over (grown_over gr (at_frames v n ps) (14 * n) P (omega arith) (omega (arith, few r)) (omega arith)) (at_frames v n ps) (10 * n) E (omega arith) (omega (arith, few r)) (omega arith)
 
     -- what is sorted, cleared
-    pub sorted_gone : Clear w (10 * n) (6 * n) → over u (10 * n) (replicate (6 * n) 0) ≡ w
+    pub sorted_gone : Clear w (10 * n) (6 * n) → over u (10 * n) (replicate (5 * n) 0) ≡ w
     sorted_gone cl =
-        ap (λ (z : List ℕ). over z (10 * n) (replicate (6 * n) 0)) as_many
-        ∙ sorted_cleared (cell_key v n ps) m (4 * m) (10 * n) n (few r) (apart r) (cell_key_below r) w l (omega (arith, few r)) (10 * n) (6 * n) (omega arith) (omega arith) (omega arith) (omega (arith, few r)) (omega arith) cl
+        ap (λ (z : List ℕ). over z (10 * n) (replicate (5 * n) 0)) as_many
+        ∙ sorted_cleared (cell_key v n ps) m (4 * m) (10 * n) n (few r) (apart r) (cell_key_below r) w l (omega (arith, few r)) (10 * n) (5 * n) (omega arith) (omega arith) (omega arith) (omega (arith, few r)) (omega arith)
+        (clear_within w (10 * n) (6 * n) (10 * n) (5 * n) cl (omega arith) (omega arith))
+
+    -- and the words after it, clear still
+    clear_sorted : Clear w (10 * n) (6 * n) → Clear (sorted_by (cell_key v n ps) m (4 * m) (10 * n) n w) (15 * n) n
+    unfolding sorted_by
+    clear_sorted cl =
+        let key = cell_key v n ps in
+        let P = places_of key m (4 * m) in
+        let E = column (λ b. start_of key m (b + 1)) (4 * m) in
+        let a = places_long key m (4 * m) (10 * n) n (few r) (apart r) (cell_key_below r) in
+        let b = ends_long key m (4 * m) (10 * n) n (few r) (apart r) (cell_key_below r) in
+        let o : length (over w (14 * n) P) ≡ length w = over_length w (14 * n) P (omega (arith, few r)) in
+        clear_after (over w (14 * n) P) (15 * n) n (10 * n) E (omega arith) (omega (arith, few r))
+        (clear_after w (15 * n) n (14 * n) P (omega arith) (omega (arith, few r)) (clear_within w (10 * n) (6 * n) (15 * n) n cl (omega arith) (omega arith)))
 
     -- ---- the words in slices
     module _ {G R R₁ S R₂ N : List ℕ} (eg : G ≡ take (6 * n) u) (er : R ≡ drop (6 * n) u) (e₁ : R₁ ≡ drop (4 * n) R) (es : S ≡ take (5 * n) R₁) (e₂ : R₂ ≡ drop (5 * n) R₁) (en : N ≡ drop n R₂) where
       from_ten : R₁ ≡ drop (10 * n) u
       from_ten = let z : 6 * n + 4 * n ≡ 10 * n = omega arith in e₁ ∙ ap (drop (4 * n)) er ∙ drop-drop (4 * n) (6 * n) u ∙ ap (λ (a : ℕ). drop a u) z
 
+      from_fifteen : R₂ ≡ drop (15 * n) u
+      from_fifteen = let z : 10 * n + 5 * n ≡ 15 * n = omega arith in e₂ ∙ ap (drop (5 * n)) from_ten ∙ drop-drop (5 * n) (10 * n) u ∙ ap (λ (a : ℕ). drop a u) z
+
       nodes : N ≡ drop (16 * n) u
-      nodes =
-          let y : 10 * n + 5 * n ≡ 15 * n = omega arith in
-          let z : 15 * n + n ≡ 16 * n = omega arith in
-          en
-          ∙ ap (drop n) (e₂ ∙ ap (drop (5 * n)) from_ten ∙ drop-drop (5 * n) (10 * n) u ∙ ap (λ (a : ℕ). drop a u) y)
-          ∙ drop-drop n (15 * n) u
-          ∙ ap (λ (a : ℕ). drop a u) z
+      nodes = let z : 15 * n + n ≡ 16 * n = omega arith in en ∙ ap (drop n) from_fifteen ∙ drop-drop n (15 * n) u ∙ ap (λ (a : ℕ). drop a u) z
 
       pub listable : length S ≡ 5 * n → Listable v n ps k G S N
       listable h =
@@ -87,3 +99,11 @@ module _ {ps : List ℤ} {v : ValidParams} {n : ℕ} (r : Ready ps v n) {k : ℕ
             ends = z.0;
             places = sym (ap (part S (4 * n)) b) ∙ z.1;
           }
+
+      -- the list, which is clear
+      pub list_clear : {X : List ℕ} → X ≡ take n R₂ → length X ≡ n → Clear w (10 * n) (6 * n) → Clear X 0 (length X)
+      list_clear {X} ex ln cl i h =
+          let z : 0 + i ≡ i = omega arith in
+          ap₂ (λ (y : List ℕ) (j : ℕ). get_or y j 0) (ex ∙ ap (take n) from_fifteen) z
+          ∙ part_at u (15 * n) n i (omega (arith, h, ln))
+          ∙ subst (λ (y : List ℕ). Clear y (15 * n) n) (sym as_many) (clear_sorted cl) i (omega (arith, h, ln))

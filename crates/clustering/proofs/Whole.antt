@@ -5,8 +5,7 @@ use Prim.Native.Nat.{ℕ, ◌*◌, ◌<◌}
 use native.Mathlib.Nat.{mul-le-mul}
 use native.Mathlib.Omega.{arith}
 use lib.ListN.{length, get_or}
-use Rattle.std.proofs.Common.{refl}
-use Rattle.lists.specs.Lists.{numbers, how_many}
+use Rattle.lists.specs.Lists.{numbers, how_many, nonzero}
 use Rattle.lists.specs.Words.{column}
 use Rattle.lists.specs.ListLaws.{map_same, in_numbers, at_numbers}
 use Rattle.counting_tree.specs.Geometry.{Geometry}
@@ -34,19 +33,21 @@ module _ (s : CellsGrid) where
   led : Led (core_at g) (lowest_at g most) s.k
   led = subst (Led (core_at g) (lowest_at g most)) (sym s.arranged.count) (lowest_led g most)
 
-  module _ {ls : List ℕ} (el : ls ≡ column (lowest_at (geometry s.frames) (s.frames.n * s.frames.n)) s.k) where
+  module _ (ls ts : List ℕ) (el : ls ≡ column (lowest_at (geometry s.frames) (s.frames.n * s.frames.n)) s.k) (lt : length ts ≡ s.k) (et : (c : ℕ) → c < s.k → nonzero (get_or ts c 0) ≡ core_at (geometry s.frames) c) where
     low_same : (c : ℕ) → c < s.k → get_or ls c 0 ≡ lowest_at g most c
     low_same c h = ap (λ (z : List ℕ). get_or z c 0) el ∙ at_numbers (lowest_at g most) 0 s.k c h
 
-    pub can_number : Led (core_at (geometry s.frames)) (λ c. get_or ls c 0) s.k
-    can_number = led_same (λ c h. refl) low_same led
+    pub can_number : Led (λ c. nonzero (get_or ts c 0)) (λ c. get_or ls c 0) (length ts)
+    can_number = subst (Led (λ c. nonzero (get_or ts c 0)) (λ c. get_or ls c 0)) (sym lt) (led_same et low_same led)
 
-    pub clusters_counted : {m : ℕ} → m ≡ how_many (leads (core_at (geometry s.frames)) (λ c. get_or ls c 0)) (numbers s.k) → m ≡ length (clusters (geometry s.frames))
+    pub clusters_counted : {m : ℕ} → m ≡ how_many (leads (λ c. nonzero (get_or ts c 0)) (λ c. get_or ls c 0)) (numbers (length ts)) → m ≡ length (clusters (geometry s.frames))
     clusters_counted e =
-        e ∙ leads_same (λ c h. refl) low_same led s.k (omega arith) ∙ ap (λ (m : ℕ). how_many (leads (core_at g) (lowest_at g most)) (numbers m)) s.arranged.count ∙ sym (cluster_total g (ready_lawful s.frames.ready) most done)
+        e ∙ ap (λ (m : ℕ). how_many (leads (λ c. nonzero (get_or ts c 0)) (λ c. get_or ls c 0)) (numbers m)) lt
+        ∙ leads_same et low_same led s.k (omega arith) ∙ ap (λ (m : ℕ). how_many (leads (core_at g) (lowest_at g most)) (numbers m)) s.arranged.count ∙ sym (cluster_total g (ready_lawful s.frames.ready) most done)
 
-    pub clusters_are : {ws : List ℕ} → ws ≡ column (number_by (core_at (geometry s.frames)) (λ c. get_or ls c 0)) s.k → ws ≡ column (cluster_word (geometry s.frames)) s.k
+    pub clusters_are : {ws : List ℕ} → ws ≡ column (number_by (λ c. nonzero (get_or ts c 0)) (λ c. get_or ls c 0)) (length ts) → ws ≡ column (cluster_word (geometry s.frames)) s.k
     clusters_are e =
-        e ∙ map_same (number_by (core_at g) (λ c. get_or ls c 0)) (cluster_word g) (numbers s.k) (λ c i.
+        e ∙ ap (column (number_by (λ c. nonzero (get_or ts c 0)) (λ c. get_or ls c 0))) lt
+        ∙ map_same (number_by (λ c. nonzero (get_or ts c 0)) (λ c. get_or ls c 0)) (cluster_word g) (numbers s.k) (λ c i.
         let h = in_numbers s.k c i in
-        number_same (λ c h. refl) low_same led c h ∙ cluster_word_lem g (ready_lawful s.frames.ready) most done c (omega (arith, s.arranged.count)))
+        number_same et low_same led c h ∙ cluster_word_lem g (ready_lawful s.frames.ready) most done c (omega (arith, s.arranged.count)))

@@ -9,7 +9,7 @@ ghost use Rattle.core_cells.specs.Forest.{Grown};
 ghost use Rattle.clustering.specs.Clusters.{place, clusters, label_by, kind_of};
 ghost use Rattle.clustering.specs.Uniting.{lowest_at};
 ghost use Rattle.clustering.specs.Numbering.{cluster_word};
-ghost use Rattle.clustering.specs.Regions.{Listable};
+ghost use Rattle.clustering.specs.Regions.{ClearAgain, Listable};
 
 use cells_grid::listing::ENDS;
 use counting_tree::Frames;
@@ -63,6 +63,7 @@ fn label_words<'a>(
         f.n (column (cluster_word g) k))
         (2 * f.n) (column (label_by g (λ c. place c (clusters g))) f.n))
         (3 * f.n) (column (kind_of g) f.n) }
+    ensures list { ClearAgain list.old list.new }
 {
     let n = frames.n;
     let cells = listed_cells(frames, k, work, sorted, nodes);
@@ -72,7 +73,7 @@ fn label_words<'a>(
     let leaders = &mut leaders[..k];
     let cluster_of = &mut cluster_of[..k];
     listed::unite_listed_cells(&cells, leaders, &mut kinds[..k], &mut labels[..k], list);
-    let m = labels::number_clusters(&cells.core, leaders, cluster_of);
+    let m = labels::number_clusters(cells.trees(), leaders, cluster_of);
     labels::label_frames(&cells, cluster_of, m, labels, kinds, list);
     m
 }
@@ -95,6 +96,6 @@ pub fn label(frames: &Frames, k: usize, work: &mut [Word]) -> usize
     let (sorted, rest) = rest.split_at_mut(5 * n);
     let (list, nodes) = rest.split_at_mut(n);
     let m = label_words(*frames, k, cells, sorted, nodes, words, list);
-    lists::clear_words(work, ENDS * n, 6 * n);
+    lists::clear_words(work, ENDS * n, 5 * n);
     m
 }

@@ -5,6 +5,7 @@ ghost use Rattle.lists.specs.Words.{rest};
 ghost use Rattle.counting_tree.specs.Given.{geometry};
 ghost use Rattle.cells_grid.specs.Listing.{later_of, unlike, Marked};
 ghost use Rattle.clustering.specs.Leading.{Leading};
+ghost use Rattle.clustering.specs.Regions.{ClearAgain};
 ghost use Rattle.clustering.specs.UniteAll.{meet, meet_all, by_own_leaders, pairs_by};
 
 use crate::{ListedCells, sets};
@@ -55,14 +56,17 @@ pub(crate) fn meet_stage<L: Links>(
 )
     requires cells { (L.cells links.now ≡ cells.now.core.grid.k) × (stage.end ≤ cells.now.core.grid.k) × (cells.now.core.grid.k ≤ length list.old) }
     requires leaders { Leading cells.now.core.grid.k leaders.old × Marked cells.now.places.now marks.now runs.now }
-    ensures { let f = cells.now.core.grid.frames in leaders.new ≡ meet_all by_own_leaders (L.linked links.now)
+    ensures leaders { let f = cells.now.core.grid.frames in leaders.new ≡ meet_all by_own_leaders (L.linked links.now)
         (pairs_by (geometry f) (unlike marks.now (later_of f.v f.n f.points.now)) (rest stage.end stage.start)) leaders.old }
+    ensures list { ClearAgain list.old list.new }
 {
     let sorted = cells.sorted();
     for c in stage {
         if cells.core.has_core(c) {
-            let m = sorted.list_later(marks, runs, c, list);
+            let mark = marks[c] as usize;
+            let m = sorted.list_later(marks, runs, mark, c, list);
             meet_list(links, leaders, c, &list[..m]);
+            list[..m].fill(0);
         }
     }
 }

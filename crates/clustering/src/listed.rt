@@ -1,5 +1,5 @@
 // Uniting the linked core cells by the cells' lists, in stages, after those that are close.
-ghost use Rattle.std.specs.Prelude.{◌≡◌, ℕ, ◌+◌, ◌*◌, ◌/◌, ◌<◌, ◌≤◌, min, length};
+ghost use Rattle.std.specs.Prelude.{◌≡◌, ℕ, ◌+◌, ◌*◌, ◌/◌, ◌<◌, ◌≤◌, min, length, replicate};
 ghost use Rattle.lists.specs.Lists.{numbers};
 ghost use Rattle.lists.specs.Words.{column};
 ghost use Rattle.hyperparams.specs.Params.{max_frames};
@@ -8,6 +8,7 @@ ghost use Rattle.cells_grid.specs.Listing.{later_of};
 ghost use Rattle.partitions.specs.LeaderLaws.{Stands};
 ghost use Rattle.partitions.specs.Trials.{by_lowest};
 ghost use Rattle.clustering.specs.Leading.{Leading};
+ghost use Rattle.clustering.specs.Regions.{ClearAgain};
 ghost use Rattle.clustering.specs.Uniting.{lowest_at};
 ghost use Rattle.clustering.specs.UniteAll.{link_at, meet_all, pairs_by};
 
@@ -36,8 +37,9 @@ fn unite_lists(
     list: &mut [Word],
 )
     requires { let k = cells.now.core.grid.k in Leading k leaders.old × (length marks.old ≡ k) × (length runs.old ≡ k) × (k ≤ length list.old) }
-    ensures { let k = cells.now.core.grid.k in let f = cells.now.core.grid.frames in let g = geometry f in (low : ℕ → ℕ) → Stands k low leaders.old
+    ensures leaders { let k = cells.now.core.grid.k in let f = cells.now.core.grid.frames in let g = geometry f in (low : ℕ → ℕ) → Stands k low leaders.old
         → Stands k (meet_all by_lowest (link_at g) (pairs_by g (later_of f.v f.n f.points.now) (numbers k)) low) leaders.new }
+    ensures list { ClearAgain list.old list.new }
 {
     let k = cells.core.grid.k;
     let mut from = 0;
@@ -57,7 +59,7 @@ fn unite_lists(
     }
 }
 
-// Writes the lowest cell of each cell's set, with all linked core cells united, in whatever order the lists give them.
+// Writes the lowest cell of each cell's set, with all linked core cells united, in whatever order the lists give them. The words of the marks and runs, used meanwhile, are 0 then.
 pub fn unite_listed_cells(
     cells: &ListedCells,
     leaders: &mut [Word],
@@ -66,10 +68,15 @@ pub fn unite_listed_cells(
     list: &mut [Word],
 )
     requires { let k = cells.now.core.grid.k in (length leaders.old ≡ k) × (length marks.old ≡ k) × (length runs.old ≡ k) × (k ≤ length list.old) }
-    ensures { let f = cells.now.core.grid.frames in leaders.new ≡ column (lowest_at (geometry f) (f.n * f.n)) cells.now.core.grid.k }
+    ensures leaders { let f = cells.now.core.grid.frames in leaders.new ≡ column (lowest_at (geometry f) (f.n * f.n)) cells.now.core.grid.k }
+    ensures marks { marks.new ≡ replicate cells.now.core.grid.k 0 }
+    ensures runs { runs.new ≡ replicate cells.now.core.grid.k 0 }
+    ensures list { ClearAgain list.old list.new }
 {
     partitions::reset(leaders);
     unite_close_cells(cells, leaders);
     unite_lists(cells, leaders, marks, runs, list);
     sets::flatten(leaders);
+    marks.fill(0);
+    runs.fill(0);
 }

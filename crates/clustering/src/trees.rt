@@ -1,19 +1,23 @@
 // Whether the trees of large cells are asked, seen before any is built: cells are united as far as whole numbers of a few of their frames tell, and then it is
 // seen whether a large cell still finds one of another set. No label depends on the answer.
-ghost use Rattle.std.specs.Prelude.{◌≡◌, ◌+◌, ◌*◌, ◌<◌, ◌≤◌, length};
+ghost use Rattle.std.specs.Prelude.{◌≡◌, ◌+◌, ◌-◌, ◌*◌, ◌<◌, ◌≤◌, ltb, length, get_or};
 ghost use Rattle.lists.specs.Lists.{Below};
 ghost use Rattle.lists.specs.Words.{over, part, Clear};
 ghost use Rattle.counting_tree.specs.Given.{geometry};
+ghost use Rattle.cells_grid.specs.Cells.{members};
+ghost use Rattle.cells_grid.specs.Arrangement.{cell_at};
 ghost use Rattle.cells_grid.specs.Listing.{Marked};
+ghost use Rattle.cells_grid.specs.Places.{end_in};
 ghost use Rattle.core_cells.specs.Forest.{Grown};
-ghost use Rattle.clustering.specs.Regions.{Listable};
+ghost use Rattle.clustering.specs.Regions.{ClearAgain, Listable};
 ghost use Rattle.clustering.specs.Soon.{is_near_at, soon_near_at, soon_linked_at};
 
 use crate::linking::core_frame;
 use crate::links::{Links, meet_stage};
 use crate::marks::mark_cells;
 use crate::regions::listed_cells;
-use crate::{LEADERS, ListedCells};
+use crate::uniting::MARKS;
+use crate::{LABELS, LEADERS, ListedCells};
 use cells_grid::CellsGrid;
 use cells_grid::listing::ENDS;
 use core_cells::{CoreCells, NODES, PATHS};
@@ -63,6 +67,8 @@ const BORDER: usize = 64;
 // Whether cell c is large: so many frames may be core that it would have a tree.
 fn is_large(grid: &CellsGrid, c: usize) -> bool
     requires { c < grid.now.k }
+    ensures frames { let g = geometry grid.now.frames in result ≡ ltb 64 (length (members g (cell_at g c))) }
+    ensures words { let s = grid.now in let n = s.frames.n in result ≡ ltb 64 (end_in s.work.now n s.k c - get_or s.work.now (2 * n + c) 0) }
 {
     grid.frames_of(c).len() > PATHS
 }
@@ -97,12 +103,16 @@ fn asks_trees(cells: &CoreCells, c: usize, list: &[Word]) -> bool
 // Whether some core cell finds a core cell of another mark with which a tree would be asked.
 fn some_ask(cells: &ListedCells, marks: &[Word], runs: &[Word], list: &mut [Word]) -> bool
     requires { Marked cells.now.places.now marks.now runs.now × (cells.now.core.grid.k ≤ length list.old) }
+    ensures { ClearAgain list.old list.new }
 {
     let sorted = cells.sorted();
     for c in 0..cells.core.grid.k {
         if cells.core.has_core(c) {
-            let m = sorted.list_later(marks, runs, c, list);
-            if asks_trees(&cells.core, c, &list[..m]) {
+            let mark = marks[c] as usize;
+            let m = sorted.list_later(marks, runs, mark, c, list);
+            let ask = asks_trees(&cells.core, c, &list[..m]);
+            list[..m].fill(0);
+            if ask {
                 return true;
             }
         }
@@ -119,6 +129,7 @@ fn asked_at_last(
     list: &mut [Word],
 ) -> bool
     requires { let k = cells.now.core.grid.k in (length leaders.old ≡ k) × (length marks.old ≡ k) × (length runs.old ≡ k) × (k ≤ length list.old) }
+    ensures { ClearAgain list.old list.new }
 {
     partitions::reset(leaders);
     crate::close::unite_close_cells(cells, leaders);
@@ -154,12 +165,13 @@ fn asked_words<'a>(
 ) -> bool
     requires cells { Listable frames.v frames.n frames.points.now k work.now sorted.now nodes.now }
     requires sizes { (length words.old ≡ 4 * frames.n) × (length list.old ≡ frames.n) }
-    ensures { let n = frames.entry.n in words.new ≡ over (over words.old 0 (part words.new 0 k)) (2 * n) (part words.new (2 * n) (2 * n)) }
+    ensures words { let n = frames.entry.n in words.new ≡ over (over words.old 0 (part words.new 0 k)) (2 * n) (part words.new (2 * n) (2 * n)) }
+    ensures list { ClearAgain list.old list.new }
 {
     let n = frames.n;
     let cells = listed_cells(frames, k, work, sorted, nodes);
-    let (leaders, rest) = words.split_at_mut(2 * n);
-    let (runs, marks) = rest.split_at_mut(n);
+    let (leaders, rest) = words.split_at_mut((LABELS - LEADERS) * n);
+    let (runs, marks) = rest.split_at_mut((MARKS - LABELS) * n);
     asked_at_last(
         &cells,
         &mut leaders[..k],
@@ -196,6 +208,6 @@ pub fn wanted(frames: &Frames, k: usize, work: &mut [Word]) -> bool
     let (sorted, rest) = rest.split_at_mut(5 * n);
     let (list, nodes) = rest.split_at_mut(n);
     let asked = asked_words(*frames, k, cells, sorted, nodes, words, list);
-    lists::clear_words(work, ENDS * n, 6 * n);
+    lists::clear_words(work, ENDS * n, 5 * n);
     asked
 }

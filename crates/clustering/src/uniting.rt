@@ -11,10 +11,13 @@ ghost use Rattle.clustering.specs.Clusters.{touches};
 ghost use Rattle.clustering.specs.Leading.{Leading};
 ghost use Rattle.clustering.specs.Uniting.{pair_at, one_pair, pairs_with, pairs_of, touch_at, progress_of, told_of, uniting, lowest_at};
 
-use crate::sets;
+use crate::{KINDS, sets};
 use core_cells::CoreCells;
 use counting_tree::Box;
 use lists::Word;
+
+// From 9n on, while cells are united: the mark of each cell, the lowest cell of its set when the stage began.
+pub const MARKS: usize = KINDS;
 
 // Where the trials ended: how many were used, and the pair that still needs one, if one does.
 #[derive(Clone, Copy, PartialEq, Eq)]

@@ -7,7 +7,7 @@ use Rattle.clustering.specs.Clusters.{place, clusters, label_by, kind_of}
 use Rattle.clustering.specs.Uniting.{lowest_at}
 use Rattle.clustering.specs.Numbering.{cluster_word}
 use Rattle.clustering.proofs.PutBack.{Layers, in_whole, Fit, parts, together}
-use Rattle.clustering.proofs.SortedIn.{few_cells, core_words, sorted_gone, listable}
+use Rattle.clustering.proofs.SortedIn.{few_cells, core_words, sorted_gone, listable, list_clear}
 use Rattle.clustering.proofs.label.Goals as goal
 
 pub sort_cells-requires-clause-by_index : goal.sort_cells-requires-clause-by_index
@@ -38,5 +38,5 @@ returns-clause-work_after c =
     let w = c.split_at_mut-words.ensures in
     let s = c.split_at_mut-sorted.ensures in
     let x = c.split_at_mut-list.ensures in
-    together (parts g.value w.value s.value x.value g.front_len w.front_len s.front_len x.front_len) ls fit _ c.label_words-m.ensures.words (c.label_words-m.auto.list ∙ x.front_len) c.clear_words.ensures
+    together (parts g.value w.value s.value x.value g.front_len w.front_len s.front_len x.front_len) ls fit c.label_words-m.ensures.words (c.label_words-m.ensures.list (list_clear f.ready c.requires.0 c.requires.1 c.sort_cells.ensures g.front g.back w.back s.front s.back x.back x.front x.front_len c.requires.2)) c.clear_words.ensures
     ∙ ap (in_whole ls) (sorted_gone f.ready c.requires.0 c.requires.1 c.sort_cells.ensures c.requires.2)

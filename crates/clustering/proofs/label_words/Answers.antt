@@ -9,6 +9,8 @@ use Rattle.clustering.specs.Uniting.{lowest_at}
 use Rattle.clustering.specs.Numbering.{cluster_word}
 use Rattle.clustering.proofs.InWords.{front_size, four_laid, four_same}
 use Rattle.clustering.proofs.Whole.{can_number, clusters_counted, clusters_are}
+use Rattle.clustering.proofs.Clearing.{again_on}
+use Rattle.clustering.proofs.Phases.{few_words}
 use Rattle.clustering.proofs.label_words.Goals as goal
 
 pub unite_listed_cells-requires : goal.unite_listed_cells-requires
@@ -27,10 +29,14 @@ unite_listed_cells-requires c =
 pub number_clusters-m-requires-clause-sizes : goal.number_clusters-m-requires-clause-sizes
 number_clusters-m-requires-clause-sizes c =
     let e = c.listed_cells-cells.ensures in
-    (ap length c.unite_listed_cells.ensures ∙ length_numbers _ _, length-take-le c.args.k _ (omega (arith, c.split_at_mut-cluster_of.ensures.front_len, c.requires.cells.few)) ∙ sym e.1)
+    let t = c.trees.ensures.length in (
+      omega (arith, t, few_words c.listed_cells-cells.result.core.grid),
+      ap length c.unite_listed_cells.ensures.leaders ∙ length_numbers _ _ ∙ sym t,
+      length-take-le c.args.k _ (omega (arith, c.split_at_mut-cluster_of.ensures.front_len, c.requires.cells.few)) ∙ sym e.1 ∙ sym t,
+    )
 
 pub number_clusters-m-requires-clause-led : goal.number_clusters-m-requires-clause-led
-number_clusters-m-requires-clause-led c = can_number c.listed_cells-cells.result.core.grid c.unite_listed_cells.ensures
+number_clusters-m-requires-clause-led c = can_number c.listed_cells-cells.result.core.grid c.unite_listed_cells.new.leaders c.trees.result.now c.unite_listed_cells.ensures.leaders c.trees.ensures.length c.trees.ensures.core
 
 pub label_frames-requires-clause-sizes : goal.label_frames-requires-clause-sizes
 label_frames-requires-clause-sizes c =
@@ -49,12 +55,15 @@ label_frames-requires-clause-sizes c =
 
 pub label_frames-requires-clause-clusters : goal.label_frames-requires-clause-clusters
 label_frames-requires-clause-clusters c =
-    let s = c.listed_cells-cells.result.core.grid in
-    (clusters_counted s c.unite_listed_cells.ensures c.number_clusters-m.ensures.count, clusters_are s c.unite_listed_cells.ensures c.number_clusters-m.ensures.clusters)
+    let s = c.listed_cells-cells.result.core.grid in (
+      clusters_counted s c.unite_listed_cells.new.leaders c.trees.result.now c.unite_listed_cells.ensures.leaders c.trees.ensures.length c.trees.ensures.core c.number_clusters-m.ensures.count,
+      clusters_are s c.unite_listed_cells.new.leaders c.trees.result.now c.unite_listed_cells.ensures.leaders c.trees.ensures.length c.trees.ensures.core c.number_clusters-m.ensures.clusters,
+    )
 
 pub returns-clause-value : goal.returns-clause-value
 returns-clause-value c =
-    clusters_counted c.listed_cells-cells.result.core.grid c.unite_listed_cells.ensures c.number_clusters-m.ensures.count ∙ ap (λ (f : Frames). length (clusters (geometry f))) c.listed_cells-cells.ensures.0
+    clusters_counted c.listed_cells-cells.result.core.grid c.unite_listed_cells.new.leaders c.trees.result.now c.unite_listed_cells.ensures.leaders c.trees.ensures.length c.trees.ensures.core c.number_clusters-m.ensures.count
+    ∙ ap (λ (f : Frames). length (clusters (geometry f))) c.listed_cells-cells.ensures.0
 
 pub returns-clause-words : goal.returns-clause-words
 returns-clause-words c =
@@ -65,8 +74,8 @@ returns-clause-words c =
     let s = c.listed_cells-cells.result.core.grid in
     let n = c.args.frames.n in
     let k = c.args.k in
-    let ls = c.unite_listed_cells.ensures in
-    let cs = clusters_are s ls c.number_clusters-m.ensures.clusters in
+    let ls = c.unite_listed_cells.ensures.leaders in
+    let cs = clusters_are s c.unite_listed_cells.new.leaders c.trees.result.now ls c.trees.ensures.length c.trees.ensures.core c.number_clusters-m.ensures.clusters in
     let lead : Frames → ℕ → List ℕ = λ f k. column (lowest_at (geometry f) (f.n * f.n)) k in
     let number : Frames → ℕ → List ℕ = λ f k. column (cluster_word (geometry f)) k in
     let label : Frames → List ℕ = λ f. column (label_by (geometry f) (λ i. place i (clusters (geometry f)))) f.n in
@@ -81,3 +90,6 @@ returns-clause-words c =
     a.value b.value d.value a.front_len b.front_len d.front_len kk c.requires.cells.few
     (ap length one ∙ length_numbers _ k) (ap length two ∙ length_numbers _ k) (ap length three ∙ length_numbers _ n) (ap length four ∙ length_numbers _ n)
     ∙ four_same c.args.words.now n one two three four
+
+pub returns-clause-list : goal.returns-clause-list
+returns-clause-list c = again_on c.unite_listed_cells.ensures.list c.label_frames.ensures.list

@@ -1,6 +1,7 @@
 use Rattle.std.proofs.Common.{rules}
 use borrow.Author.Tests.{tests}
 use Rattle.clustering.proofs.Bordering.{lists, listed_low, not_lower, no_count, lower, lowest_border}
+use Rattle.clustering.proofs.Clearing.{cleared}
 use Rattle.clustering.proofs.labels.border_cell.Goals as goal
 use Rattle.clustering.proofs.labels.border_cell.Goals.{then-is_none_or+then-reaches, else-is_none_or, else-is_none_or-via-then-is_none_or+else-reaches, else-is_none_or-via-else-is_none_or}
 
@@ -23,6 +24,9 @@ loop-c-preserved c =
       ])
     ]
 
-pub returns : goal.returns
-returns c =
+pub returns-clause-cell : goal.returns-clause-cell
+returns-clause-cell c =
     lowest_border (lists c.args.cells.now.core.grid _ c.sorted.ensures.0 c.cell_of.ensures.value c.cell_of.ensures.bound c.list_cells-m.ensures.value c.list_cells-m.ensures.list) c.loop-c.invariant c.loop-c-test.false
+
+pub returns-clause-list : goal.returns-clause-list
+returns-clause-list c = cleared _ c.list_cells-m.ensures.value c.list_cells-m.ensures.list c.list_cells-m.auto.list (c.fill.ensures.after (λ y h. h))

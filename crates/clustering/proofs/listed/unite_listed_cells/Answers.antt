@@ -13,7 +13,7 @@ pub unite_lists-requires : goal.unite_lists-requires
 unite_lists-requires c = (close_leading c.args.cells.now.core.grid c.requires.0 c.reset.ensures c.unite_close_cells.ensures, c.requires.1, c.requires.2, c.requires.3)
 
 pub flatten-requires : goal.flatten-requires
-flatten-requires c = can_flatten c.args.cells.now.core.grid c.requires.0 c.reset.ensures c.unite_close_cells.ensures c.unite_lists.ensures
+flatten-requires c = can_flatten c.args.cells.now.core.grid c.requires.0 c.reset.ensures c.unite_close_cells.ensures c.unite_lists.ensures.leaders
 
-pub returns : goal.returns
-returns c = lowest_met c.args.cells.now.core.grid c.requires.0 c.reset.ensures c.unite_close_cells.ensures c.unite_lists.ensures c.flatten.ensures
+pub returns-clause-leaders : goal.returns-clause-leaders
+returns-clause-leaders c = lowest_met c.args.cells.now.core.grid c.requires.0 c.reset.ensures c.unite_close_cells.ensures c.unite_lists.ensures.leaders c.flatten.ensures

@@ -5,6 +5,7 @@ use Rattle.clustering.specs.Leading.{Leading}
 use Rattle.clustering.proofs.ByLists.{rows_lead}
 use Rattle.clustering.proofs.Stages.{can_mark, marked_leading, marked_cells}
 use Rattle.clustering.proofs.Phases.{few_words, alone_leading, close_leading}
+use Rattle.clustering.proofs.Clearing.{again_on}
 use Rattle.clustering.proofs.trees.asked_at_last.Goals.{After-meet_stage}
 use Rattle.clustering.proofs.trees.asked_at_last.Goals as goal
 
@@ -31,7 +32,7 @@ soon_leading c =
     let f = c.args.cells.now.core.grid.frames in
     let L = close_leading c.args.cells.now.core.grid c.requires.0 c.reset.ensures c.unite_close_cells.ensures in
     rows_lead c.args.cells.now.core.grid (soon_linked_at f.v f.n f.points.now) c.mark_cells.new.marks 0 c.args.cells.now.core.grid.k (omega arith)
-    (marked_leading c.args.cells.now.core.grid L c.args.cells.now.placed c.mark_cells.ensures.leaders) c.meet_stage.ensures
+    (marked_leading c.args.cells.now.core.grid L c.args.cells.now.placed c.mark_cells.ensures.leaders) c.meet_stage.ensures.leaders
 
 pub mark_cells-requires-2 : goal.mark_cells-requires-2
 mark_cells-requires-2 c =
@@ -43,3 +44,6 @@ some_ask-requires c = (
   marked_cells c.args.cells.now.core.grid (soon_leading ((goal.at.some_ask-requires c).After-meet_stage)) c.args.cells.now.placed c.mark_cells-2.ensures.marks c.mark_cells-2.ensures.runs,
   omega (arith, c.requires.3, c.meet_stage.auto.list),
 )
+
+pub returns : goal.returns
+returns c = again_on c.meet_stage.ensures.list c.some_ask.ensures

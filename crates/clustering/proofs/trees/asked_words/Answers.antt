@@ -15,8 +15,8 @@ asked_at_last-requires c =
       omega (arith, e.1, r.few, c.requires.sizes.1),
     )
 
-pub returns : goal.returns
-returns c =
+pub returns-clause-words : goal.returns-clause-words
+returns-clause-words c =
     let r = c.requires.cells in
     let a = c.split_at_mut-leaders.ensures in
     let b = c.split_at_mut-runs.ensures in
@@ -27,7 +27,8 @@ returns c =
     let rs = c.asked_at_last.new.runs in
     let ms = c.asked_at_last.new.marks in
     let kk : length K ≡ c.args.frames.n = omega (arith, a.back_len, b.back_len, c.requires.sizes.0) in
-    let lb : length (rs ++ drop c.args.k B) ≡ c.args.frames.n = front_size rs B (z.runs ∙ length-take-le c.args.k B (omega (arith, b.front_len, r.few))) (omega (arith, b.front_len, r.few)) ∙ b.front_len in
+    let bb : length B ≡ c.args.frames.n = omega (arith, b.front_len) in
+    let lb : length (rs ++ drop c.args.k B) ≡ c.args.frames.n = front_size rs B (z.runs ∙ length-take-le c.args.k B (omega (arith, b.front_len, r.few))) (omega (arith, b.front_len, r.few)) ∙ bb in
     let lk : length (ms ++ drop c.args.k K) ≡ c.args.frames.n = front_size ms K (z.marks ∙ length-take-le c.args.k K (omega (arith, kk, r.few))) (omega (arith, kk, r.few)) ∙ kk in
     halves_laid L c.split_at_mut-leaders.result.1.now c.asked_at_last.new.leaders ((rs ++ drop c.args.k B) ++ (ms ++ drop c.args.k K)) a.value a.front_len (omega (arith, a.back_len, c.requires.sizes.0)) r.few
     (z.leaders ∙ length-take-le c.args.k L (omega (arith, a.front_len, r.few)))

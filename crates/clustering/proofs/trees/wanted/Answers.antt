@@ -6,7 +6,7 @@ use Rattle.counting_tree.specs.Ready.{at_frames}
 use Rattle.core_cells.specs.HasTrees.{grid_part, trees_part, nodes_from}
 use Rattle.clustering.proofs.PutBack.{Layers, in_whole, Fit, parts, together}
 use Rattle.clustering.proofs.InWords.{as_parts, unchanged}
-use Rattle.clustering.proofs.SortedIn.{few_cells, core_words, sorted_gone, listable}
+use Rattle.clustering.proofs.SortedIn.{few_cells, core_words, sorted_gone, listable, list_clear}
 use Rattle.clustering.proofs.trees.wanted.Goals as goal
 
 pub sort_cells-requires-clause-by_index : goal.sort_cells-requires-clause-by_index
@@ -42,7 +42,8 @@ returns c =
     let ls : Layers = (0, 6 * n, part W 0 k) ∷ (2 * n, 8 * n, part W (2 * n) (2 * n)) ∷ [] in
     let fit : Fit n ls = (omega arith, omega (arith, few, a), (omega arith, omega (arith, b), tt)) in
     as_parts c.args.work.now few c.requires.1 _ _ a b (
-    together (parts g.value w.value s.value x.value g.front_len w.front_len s.front_len x.front_len) ls fit _ c.asked_words-asked.ensures (c.asked_words-asked.auto.list ∙ x.front_len) c.clear_words.ensures
+    together (parts g.value w.value s.value x.value g.front_len w.front_len s.front_len x.front_len) ls fit c.asked_words-asked.ensures.words
+    (c.asked_words-asked.ensures.list (list_clear f.ready c.requires.0 c.requires.1 c.sort_cells.ensures g.front g.back w.back s.front s.back x.back x.front x.front_len c.requires.2)) c.clear_words.ensures
     ∙ ap (in_whole ls) (sorted_gone f.ready c.requires.0 c.requires.1 c.sort_cells.ensures c.requires.2)
     )
 
