@@ -1,12 +1,12 @@
 -- What the words hold after each step of `prepare`, what the functions that write them ask, and what the table of refusals hands on.
 use Rattle.std.specs.Prelude.{Ok}
-use mathlib.Core.Path.{◌≡◌, sym, ap, subst}
+use mathlib.Core.Path.{◌≡◌, sym, subst}
 use mathlib.Core.List.{List}
-use Prim.Native.Nat.{ℕ, ◌+◌, ◌*◌, ◌/◌, ◌<◌, ◌≤◌}
+use Prim.Native.Nat.{ℕ, ◌*◌, ◌/◌, ◌≤◌}
 use native.Mathlib.Omega.{arith}
 use lib.IntN.{ℤ}
-use lib.ListN.{length, replicate, drop, length-replicate, length-take, length-drop}
-use Rattle.lists.specs.Words.{over, part, column, Clear}
+use lib.ListN.{length, replicate, length-replicate}
+use Rattle.lists.specs.Words.{over, column, Clear}
 use Rattle.lists.specs.ListLaws.{length_numbers}
 use Rattle.lists.proofs.WordLaws.{over_length}
 use Rattle.lists.proofs.PartLaws.{clear_within}

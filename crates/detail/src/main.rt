@@ -3,7 +3,7 @@
 // then a line a frame, 4 two's complement digits a channel. A line `--` ends a set.
 #![tactic(auto)]
 
-ghost use Rattle.std.specs.Prelude.{◌+◌, ◌*◌, ◌<◌, ◌≤◌, length};
+ghost use Rattle.std.specs.Prelude.{◌≡◌, ◌+◌, ◌*◌, ◌<◌, ◌≤◌, length, take};
 ghost use Rattle.hyperparams.specs.Params.{work_words};
 ghost use Rattle.counting_tree.specs.Given.{geometry};
 ghost use Rattle.core_cells.specs.Forest.{Grown};
@@ -12,12 +12,9 @@ use cells_grid::CellsGrid;
 use cells_grid::listing::TREES;
 use core_cells::{CoreCells, NODES};
 use counting_tree::Frames;
-use hexadecimal::{number, signed};
 use hyperparams::{Params, Refusal};
 use lists::Word;
-use std::alloc::{AllocError, Global};
 use std::io;
-use std::io::Read;
 use tree_structure::Node;
 
 // Where the words begin that the phases need to be 0 (fourteen regions), in multiples of the number of frames.
@@ -27,6 +24,9 @@ const CLEAR: usize = 10;
 const HEAD: usize = 12;
 
 const SET_END: usize = 3;
+
+// More than the sets have.
+const CAPACITY: usize = 65536;
 
 // The counts of 64 frames of 4 channels, and the work words that they need with the largest s.
 const MAX_COUNTS: usize = 256;
@@ -40,19 +40,47 @@ fn set_end(text: &[u8]) -> usize
     text.iter().position(|b| *b == b'-').unwrap_or(text.len())
 }
 
-// Reads the counts of some lines, at most so many.
-fn read_points(alloc: Global, lines: &[u8]) -> Result<Vec<i16>, AllocError> {
-    let mut points = Vec::new(alloc);
+// What a byte counts for as a digit: bytes that are none count on from `0` and `a`, modulo 16, and 0 below.
+fn digit(b: u8) -> u8
+    ensures { result < 16 }
+{
+    match b {
+        b'a'.. => (b - b'a' + 10) % 16,
+        b'0'.. => (b - b'0') % 16,
+        _ => 0,
+    }
+}
+
+// The number of the 2 digits at a place.
+fn two_digits(text: &[u8], at: usize) -> u8
+    requires { at + 2 ≤ length text.now }
+{
+    16 * digit(text[at]) + digit(text[at + 1])
+}
+
+// The number of the 4 digits at a place.
+fn four_digits(text: &[u8], at: usize) -> u16
+    requires { at + 4 ≤ length text.now }
+{
+    256 * u16::from(two_digits(text, at)) + u16::from(two_digits(text, at + 2))
+}
+
+// Reads the counts of some lines, as many as there is room for. Returns how many there are.
+fn read_points(lines: &[u8], points: &mut [i16]) -> usize
+    ensures { (result ≤ length points.new) × (result ≡ length (take result points.new)) }
+{
     let mut rest = lines;
-    while rest.len() >= 4 && points.len() < MAX_COUNTS {
+    let mut counts = 0;
+    while rest.len() >= 4 && counts < points.len() {
         if rest[0] == b'\n' {
             rest = &rest[1..];
         } else {
-            points.push(signed(rest, 0))?;
+            points[counts] = four_digits(rest, 0).cast_signed();
+            counts += 1;
             rest = &rest[4..];
         }
     }
-    Ok(points)
+    counts
 }
 
 // Writes the list of cell c.
@@ -79,6 +107,7 @@ fn nodes_of<'a>(cells: &'a CoreCells, c: usize) -> Option<&'a [[Word; 4]]>
 // The level of node j of a tree: how many nodes before it have it in their subtree.
 fn level_of(tree: &[[Word; 4]], j: usize) -> usize
     requires { j ≤ length tree.now }
+    ensures { result ≤ j }
 {
     tree[..j]
         .iter()
@@ -232,14 +261,14 @@ fn show_run(rt: &impl Print, points: &[i16], p: Params, work: &mut [Word]) -> io
 }
 
 // Writes a set: its settings, and what comes of its frames.
-fn show_set(rt: &impl Print, alloc: Global, set: &[u8]) -> io::Result<()> {
+fn show_set(rt: &impl Print, set: &[u8]) -> io::Result<()> {
     if set.len() < HEAD {
         return Ok(());
     }
-    let channels = number(set, 0, 2) as usize;
-    let min_points = number(set, 2, 4) as usize;
-    let t = number(set, 6, 4) as u16;
-    let s = number(set, 10, 2) % 16;
+    let channels = usize::from(two_digits(set, 0));
+    let min_points = usize::from(four_digits(set, 2));
+    let t = four_digits(set, 6);
+    let s = two_digits(set, 10) % 16;
     println!(rt; "channels {channels}, min_points {min_points}, tolerance {t}, s {s}")?;
     let p = Params {
         channels,
@@ -247,17 +276,18 @@ fn show_set(rt: &impl Print, alloc: Global, set: &[u8]) -> io::Result<()> {
         tolerance: f64::from(t),
         slack: 1.0 / f64::from(1u16 << s),
     };
-    let points = read_points(alloc, &set[HEAD..])?;
+    let mut points = [0i16; MAX_COUNTS];
+    let counts = read_points(&set[HEAD..], &mut points);
     let mut work = [0u16; MAX_WORDS];
-    show_run(rt, &points, p, &mut work)
+    show_run(rt, &points[..counts], p, &mut work)
 }
 
 // Writes every set, and a line `--` after each that has one.
-fn show_sets(rt: &impl Print, alloc: Global, text: &[u8]) -> io::Result<()> {
+fn show_sets(rt: &impl Print, text: &[u8]) -> io::Result<()> {
     let mut rest = text;
     while !rest.is_empty() {
         let (set, after) = rest.split_at(set_end(rest));
-        show_set(rt, alloc, set)?;
+        show_set(rt, set)?;
         if after.len() < SET_END {
             break;
         }
@@ -268,7 +298,7 @@ fn show_sets(rt: &impl Print, alloc: Global, text: &[u8]) -> io::Result<()> {
 }
 
 fn main(rt: HostRuntime) -> io::Result<()> {
-    let mut text = Vec::new(rt.alloc());
-    rt.stdin().read_to_end(&mut text)?;
-    show_sets(&rt, rt.alloc(), &text)
+    let mut text = [0u8; CAPACITY];
+    let n = streams::read_full(&mut rt.stdin(), &mut text)?;
+    show_sets(&rt, &text[..n])
 }

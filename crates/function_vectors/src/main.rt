@@ -4,10 +4,9 @@
 // A box: channels, tolerance, the bits of the slack, of the side and of the centre's four coordinates, the four counts, the answer's first letter.
 #![tactic(auto)]
 
-ghost use Rattle.std.specs.Prelude.{◌≡◌, ◌+◌, ◌<◌, ◌≤◌, ◌^◌};
+ghost use Rattle.std.specs.Prelude.{◌≡◌, ◌+◌, ◌-◌, ◌<◌, ◌≤◌, cond, leb};
 
 use counting_tree::{Box, IntersectionType};
-use hexadecimal::{number, signed};
 use ieee754::{INFINITY, SIGN_BIT};
 use std::io;
 
@@ -66,10 +65,32 @@ impl Tally {
     }
 }
 
-// The float whose bits the 16 digits at a place are.
-fn float_at(line: &[u8; LINE], at: usize) -> f64
-    requires { at < 2 ^ 63 }
+// What a byte counts for as a digit: bytes that are none count on from `0` and `a`, and 0 below.
+fn digit(b: u8) -> u64
+    ensures { result ≡ cond (leb 97 b) (b - 87) (b - 48) }
 {
+    match b {
+        b'a'.. => u64::from(b - b'a') + 10,
+        b'0'.. => u64::from(b - b'0'),
+        _ => 0,
+    }
+}
+
+// The number of some digits at a place, in 64 bits: what does not fit is dropped, from the front.
+fn number(line: &[u8; LINE], at: usize, digits: usize) -> u64 {
+    line.iter()
+        .skip(at)
+        .take(digits)
+        .fold(0, |n, b| (n << 4) | digit(*b))
+}
+
+// The count of the 4 digits at a place, in two's complement.
+fn count_at(line: &[u8; LINE], at: usize) -> i16 {
+    ((number(line, at, 4) % 65536) as u16).cast_signed()
+}
+
+// The float whose bits the 16 digits at a place are.
+fn float_at(line: &[u8; LINE], at: usize) -> f64 {
     let bits = number(line, at, 16);
     if bits % SIGN_BIT > INFINITY {
         return f64::NAN;
@@ -86,7 +107,7 @@ fn bits_of(x: f64) -> u64 {
 fn index_at(line: &[u8; LINE], at: usize) -> i64
     requires { at < LINE }
 {
-    let n = number(line, at + 1, 8) as i64;
+    let n = (number(line, at + 1, 8) % 4294967296) as i64;
     if line[at] == b'-' { -n } else { n }
 }
 
@@ -101,7 +122,7 @@ fn index_agrees(line: &[u8; LINE]) -> bool {
     let side = float_at(line, 30);
     side >= 0.0001220703125
         && side <= 65536.0
-        && counting_tree::grid::cell_index(side, signed(line, 8)) == index_at(line, 47)
+        && counting_tree::grid::cell_index(side, count_at(line, 8)) == index_at(line, 47)
 }
 
 // The first letter of an answer.
@@ -115,11 +136,11 @@ fn letter(answer: IntersectionType) -> u8 {
 
 // Whether the code gives the answer of a line's box.
 fn intersection_agrees(line: &[u8; LINE]) -> bool {
-    let channels = number(line, 6, 1) as usize;
+    let channels = (number(line, 6, 1) % 16) as usize;
     if channels < 1 || channels > 4 {
         return false;
     }
-    let t = number(line, 8, 4) as f64;
+    let t = (number(line, 8, 4) % 65536) as f64;
     let appx = hyperparams::appx_tolerance(t, float_at(line, 13));
     let cell = Box {
         centre: [
@@ -131,10 +152,10 @@ fn intersection_agrees(line: &[u8; LINE]) -> bool {
         side: float_at(line, 30),
     };
     let q = [
-        f64::from(signed(line, 115)),
-        f64::from(signed(line, 120)),
-        f64::from(signed(line, 125)),
-        f64::from(signed(line, 130)),
+        f64::from(count_at(line, 115)),
+        f64::from(count_at(line, 120)),
+        f64::from(count_at(line, 125)),
+        f64::from(count_at(line, 130)),
     ];
     let answer = counting_tree::boxes::determine_intersection(cell, q, channels, t, appx);
     letter(answer) == line[135]

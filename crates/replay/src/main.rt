@@ -5,15 +5,17 @@
 ghost use Rattle.std.specs.Prelude.{◌+◌, ◌<◌, ◌≤◌, length};
 
 use std::io;
-use std::io::Read;
+
+// More than the vectors have.
+const CAPACITY: usize = 393216;
 
 // The text before two marks and a line feed, and the text after them; all and nothing where they do not stand.
 fn split_at_marks(text: &[u8], mark: u8) -> (&[u8], &[u8])
     ensures within { length result.1.now ≤ length text.now }
     ensures shorter { 0 < length text.now → length result.1.now < length text.now }
 {
-    let marks = [mark, mark, b'\n'];
-    match text.windows(3).position(|w| w == &marks[..]) {
+    let stands = |w: &[u8]| matches!(*w, [a, b, b'\n'] if a == mark && b == mark);
+    match text.windows(3).position(stands) {
         Some(at) => (&text[..at], &text[at + 3..]),
         None => (text, &[]),
     }
@@ -44,7 +46,7 @@ fn replay(rt: &impl Print, text: &[u8]) -> io::Result<()> {
 }
 
 fn main(rt: HostRuntime) -> io::Result<()> {
-    let mut text = Vec::new(rt.alloc());
-    rt.stdin().read_to_end(&mut text)?;
-    replay(&rt, &text)
+    let mut text = [0u8; CAPACITY];
+    let n = streams::read_full(&mut rt.stdin(), &mut text)?;
+    replay(&rt, &text[..n])
 }
