@@ -7,7 +7,9 @@ use native.Mathlib.Omega.{arith}
 use lib.ListN.{length, get_or, drop, drop_of_length-le}
 use lib.Seq.{drop-cons}
 use native.Mathlib.Numerals.{add-one}
+use Rattle.std.specs.Bool.{then_some}
 use Rattle.std.specs.List.{list_any}
+use Rattle.std.proofs.Common.{ltb, ltb-false}
 use Rattle.std.specs.Prelude.{Option, Some, None, IfSome, unwrap_or}
 use Rattle.lists.specs.Lists.{keep, any}
 use Rattle.core_cells.specs.Nearest.{beyond, least_until}
@@ -30,40 +32,42 @@ module _ (p : ℕ → Bool) (xs : List ℕ) where
       ∙ ap (λ (m : ℕ). cond b (get_or xs k 0 ∷ left m) (left m)) (sym (add-one k))
 
 -- ---- what is found from place k on is found of all
-pub record Looking (p : ℕ → Bool) (enough : ℕ) (f : ℕ → ℕ) (xs : List ℕ) (least : Option ℕ) (k : ℕ) : Type 0 where
-  pub bound : IfSome least (λ x. x ≤ beyond)
-  pub value : least_until enough f (unwrap_or least beyond) (left p xs k) ≡ least_until enough f beyond (keep p xs)
+pub record Looking (p : ℕ → Bool) (enough : ℕ) (f : ℕ → ℕ) (xs : List ℕ) (least k : ℕ) : Type 0 where
+  pub bound : least ≤ beyond
+  pub value : least_until enough f least (left p xs k) ≡ least_until enough f beyond (keep p xs)
 
 module _ {p : ℕ → Bool} {enough : ℕ} {f : ℕ → ℕ} {xs : List ℕ} where
-  pub looking_start : Looking p enough f xs None 0
-  looking_start = record { bound = tt; value = refl }
+  pub looking_start : Looking p enough f xs beyond 0
+  looking_start = record { bound = omega arith; value = refl }
 
-  module _ {least : Option ℕ} {k : ℕ} (I : Looking p enough f xs least k) (h : k < length xs) {b : Bool} (z : b ≡ p (get_or xs k 0)) where
+  module _ {least k : ℕ} (I : Looking p enough f xs least k) (h : k < length xs) {b : Bool} (z : b ≡ p (get_or xs k 0)) where
     pub looking_miss : b ≡ false → Looking p enough f xs least (k + 1)
-    looking_miss q = record { bound = I.bound; value = ap (least_until enough f (unwrap_or least beyond)) (sym (left_first p xs h (sym q ∙ z))) ∙ I.value }
+    looking_miss q = record { bound = I.bound; value = ap (least_until enough f least) (sym (left_first p xs h (sym q ∙ z))) ∙ I.value }
 
     module _ (q : b ≡ true) {d : ℕ} (e : d ≡ f (get_or xs k 0)) where
-      first : least_until enough f (unwrap_or least beyond) (get_or xs k 0 ∷ left p xs (k + 1)) ≡ least_until enough f beyond (keep p xs)
-      first = ap (least_until enough f (unwrap_or least beyond)) (sym (left_first p xs h (sym q ∙ z))) ∙ I.value
+      first : least_until enough f least (get_or xs k 0 ∷ left p xs (k + 1)) ≡ least_until enough f beyond (keep p xs)
+      first = ap (least_until enough f least) (sym (left_first p xs h (sym q ∙ z))) ∙ I.value
 
       pub looking_stop : d < enough → d ≡ least_until enough f beyond (keep p xs)
-      looking_stop l = e ∙ sym (least_stop enough f (unwrap_or least beyond) (get_or xs k 0) (left p xs (k + 1)) (omega arith)) ∙ first
+      looking_stop l = e ∙ sym (least_stop enough f least (get_or xs k 0) (left p xs (k + 1)) (omega arith)) ∙ first
 
-      pub looking_more : d ≤ beyond → enough ≤ d → {m r : ℕ} → m ≡ unwrap_or least d → r ≡ min m d → Looking p enough f xs (Some r) (k + 1)
-      looking_more b l {m} {r} em er =
-          let y : r ≡ min (unwrap_or least beyond) d = er ∙ ap (λ (m : ℕ). min m d) em ∙ lesser least in
-          record {
-            bound = omega arith;
-            value = ap (λ (m : ℕ). least_until enough f m (left p xs (k + 1))) (y ∙ ap (min (unwrap_or least beyond)) e)
-                ∙ sym (least_next enough f (unwrap_or least beyond) (get_or xs k 0) (left p xs (k + 1)) (omega arith)) ∙ first;
-          }
-        where
-          lesser : (o : Option ℕ) → min (unwrap_or o d) d ≡ min (unwrap_or o beyond) d
-          lesser None = omega arith
-          lesser (Some x) = refl
+      pub looking_more : enough ≤ d → {r : ℕ} → r ≡ min least d → Looking p enough f xs r (k + 1)
+      looking_more l {r} er = record {
+        bound = omega (arith, I.bound);
+        value = ap (λ (m : ℕ). least_until enough f m (left p xs (k + 1))) (er ∙ ap (min least) e)
+            ∙ sym (least_next enough f least (get_or xs k 0) (left p xs (k + 1)) (omega arith)) ∙ first;
+      }
 
-  pub looking_end : {least : Option ℕ} {k : ℕ} → Looking p enough f xs least k → length xs ≤ k → unwrap_or least beyond ≡ least_until enough f beyond (keep p xs)
-  looking_end {least} I h = sym (ap (least_until enough f (unwrap_or least beyond)) (left_end p xs h) ∙ least_none enough f (unwrap_or least beyond)) ∙ I.value
+  pub looking_end : {least k : ℕ} → Looking p enough f xs least k → length xs ≤ k → least ≡ least_until enough f beyond (keep p xs)
+  looking_end {least} I h = sym (ap (least_until enough f least) (left_end p xs h) ∙ least_none enough f least) ∙ I.value
+
+-- the least number found, if one is below those of no frame
+pub least_found_of : {least : ℕ} → least ≤ beyond → {r : Option ℕ} → r ≡ then_some (ltb least beyond) least → (unwrap_or r beyond ≡ least) × IfSome r (λ x. x ≤ beyond)
+least_found_of {least} h {r} e = rw e (go (ltb least beyond) refl)
+  where
+    go : (b : Bool) → ltb least beyond ≡ b → (unwrap_or (then_some b least) beyond ≡ least) × IfSome (then_some b least) (λ x. x ≤ beyond)
+    go true q = (refl, h)
+    go false q = (omega (arith, ltb-false least beyond q), tt)
 
 -- ---- whether one passes both p and f
 pub any_kept : (p f : ℕ → Bool) (xs : List ℕ) → list_any (λ x. p x && f x) xs ≡ any f (keep p xs)

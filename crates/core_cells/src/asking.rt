@@ -19,6 +19,9 @@ use counting_tree::{Box, IntersectionType};
 // In a cell with at most so many frames these are asked before its root box, unless s is 0.
 const FEW: usize = 2;
 
+// More than any sum of squared differences.
+const BEYOND: u64 = 1 << 35;
+
 // "The far reach is N × (4 to the power s) < (t × ((2 to the power s) + 1)) squared + (4 to the power s).": whether N is not below it.
 pub(crate) fn out_of_reach(t: u64, s: usize, square: u64) -> bool
     requires { (t ≤ 65535) × (s ≤ max_power) × (square ≤ beyond) }
@@ -40,7 +43,7 @@ impl CoreCells<'_> {
         // a copy, which the loop keeps in registers
         let frames = self.grid.frames;
         let enough = frames.v.t * frames.v.t;
-        let mut least: Option<u64> = None;
+        let mut least = BEYOND;
         for x in self.grid.frames_of(c) {
             let x = *x as usize;
             if !self.is_core(x) {
@@ -50,9 +53,9 @@ impl CoreCells<'_> {
             if apart < enough {
                 return Some(apart);
             }
-            least = Some(least.unwrap_or(apart).min(apart));
+            least = least.min(apart);
         }
-        least
+        (least < BEYOND).then_some(least)
     }
 
     // What the core frames of cell c tell of whether frame q has a count in its tree: it has where one is nearer than the tolerance,

@@ -86,9 +86,10 @@ impl Frames<'_> {
         let b = self.frame(j);
         let mut sum = 0;
         for k in 0..4 {
-            if k < self.v.channels {
-                sum += square(a[k], b[k]);
+            if k >= self.v.channels {
+                return sum;
             }
+            sum += square(a[k], b[k]);
         }
         sum
     }

@@ -5,7 +5,7 @@ use Rattle.counting_tree.specs.Geometry.{N}
 use Rattle.counting_tree.specs.Given.{frame_list}
 use Rattle.cells_grid.proofs.Held.{frame_low}
 use Rattle.core_cells.proofs.Held.{core_frames}
-use Rattle.core_cells.proofs.Looking.{looking_start, looking_miss, looking_stop, looking_more, looking_end}
+use Rattle.core_cells.proofs.Looking.{looking_start, looking_miss, looking_stop, looking_more, looking_end, least_found_of}
 use Rattle.core_cells.proofs.cells.CoreCells.least_square.Goals as goal
 
 pub loop-x-init : goal.loop-x-init
@@ -27,10 +27,12 @@ returns-then-apart-enough c = record {
 }
 
 pub loop-x-preserved : goal.loop-x-preserved
-loop-x-preserved c = looking_more c.loop-x.invariant c.loop-x-test.true c.is_core.ensures c.if-not-is_core.false c.square_apart-apart.ensures.value (omega (arith, c.square_apart-apart.ensures.bound)) c.if-apart-enough.false c.unwrap_or.ensures c.min.ensures
+loop-x-preserved c = looking_more c.loop-x.invariant c.loop-x-test.true c.is_core.ensures c.if-not-is_core.false c.square_apart-apart.ensures.value c.if-apart-enough.false c.min-least.ensures
 
 pub returns : goal.returns
-returns c = record {
-  value = looking_end c.loop-x.invariant c.loop-x-test.false ∙ ap (least_until _ (N c.args.self.now.grid.frames.v (frame_list c.args.self.now.grid.frames) c.args.q) beyond) (core_frames c.args.self.now c.requires.1 c.frames_of-x-items.ensures);
-  bound = c.loop-x.invariant.bound;
-}
+returns c =
+    let z = least_found_of c.loop-x.invariant.bound c.then_some.ensures in
+    record {
+      value = z.0 ∙ looking_end c.loop-x.invariant c.loop-x-test.false ∙ ap (least_until _ (N c.args.self.now.grid.frames.v (frame_list c.args.self.now.grid.frames) c.args.q) beyond) (core_frames c.args.self.now c.requires.1 c.frames_of-x-items.ensures);
+      bound = z.1;
+    }
