@@ -68,7 +68,7 @@ fn copy_labels(work: &[Word], n: usize, labels: &mut [u16])
     requires { (9 * n ≤ length work.now) × (n ≤ length labels.old) }
     ensures { labels.new ≡ over labels.old 0 (part work.now (8 * n) n) }
 {
-    labels[..n].copy_from_slice(&work[LABELS * n..(LABELS + 1) * n]);
+    lists::copy(&mut labels[..n], &work[LABELS * n..(LABELS + 1) * n]);
 }
 
 // Copies the kinds out of the work words.

@@ -110,7 +110,7 @@ fn label_frames(frames: &Frames, k: usize, work: &mut [Word])
     } else {
         label_by_search(&sorted, told);
     }
-    cores[..n].copy_from_slice(told);
+    lists::copy(&mut cores[..n], told);
     told.fill(0);
     lists::clear_words(work, blocks::PLACES * n, crowding::WORDS * n);
 }

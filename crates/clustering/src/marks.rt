@@ -32,6 +32,6 @@ pub fn mark_cells(cells: &[Word], leaders: &mut [Word], marks: &mut [Word], runs
     ensures runs { runs.new ≡ runs_of (map (root leaders.old) cells.now) }
 {
     sets::flatten(leaders);
-    marks.copy_from_slice(leaders);
+    lists::copy(marks, leaders);
     write_runs(cells, marks, runs);
 }

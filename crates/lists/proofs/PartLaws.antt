@@ -148,6 +148,12 @@ pub column_part : (xs : List ℕ) (a n : ℕ) → a + n ≤ length xs → column
 column_part xs a n h = ext_get_or 0 (column (λ i. get_or xs (a + i) 0) n) (part xs a n) (length_numbers (λ i. get_or xs (a + i) 0) n ∙ sym (part_length xs a n h))
     (λ i k. let j : i < n = omega (arith, length_numbers (λ i. get_or xs (a + i) 0) n) in at_numbers (λ i. get_or xs (a + i) 0) 0 n i j ∙ sym (part_at xs a n i j))
 
+-- the column of all words of a list
+pub column_whole : (xs : List ℕ) → column (λ i. get_or xs i 0) (length xs) ≡ xs
+column_whole xs =
+    let f : ℕ → ℕ = λ i. get_or xs i 0 in
+    ext_get_or 0 (column f (length xs)) xs (length_numbers f (length xs)) (λ i k. at_numbers f 0 (length xs) i (omega (arith, length_numbers f (length xs))))
+
 -- one entry of a column changes
 pub column_set : (h k : ℕ → ℕ) (n c : ℕ) → c < n → ((d : ℕ) → d < n → (d ≡ c → ⊥) → h d ≡ k d) → set (column h n) c (k c) ≡ column k n
 column_set h k n c l e = ext_get_or 0 (set (column h n) c (k c)) (column k n) (length-set (column h n) c (k c) ∙ length_numbers h n ∙ sym (length_numbers k n)) (λ d m. at d (omega (arith, length-set (column h n) c (k c), length_numbers h n)))

@@ -30,6 +30,16 @@ pub fn copy_words(work: &mut [Word], from: usize, to: usize, m: usize)
     }
 }
 
+// Copies the words of `from` over those of a slice as long. (The library's `copy_from_slice` is a call of `memmove`, which nothing else here needs.)
+pub fn copy(words: &mut [Word], from: &[Word])
+    requires { length words.old ≡ length from.now }
+    ensures { words.new ≡ from.now }
+{
+    for i in 0..from.len() {
+        words[i] = from[i];
+    }
+}
+
 // Makes the `m` words from `at` on x.
 pub fn fill_words(work: &mut [Word], at: usize, m: usize, x: Word)
     requires { at + m ≤ length work.old }

@@ -50,7 +50,7 @@ fn partition(level: &Level, members: &mut [Word], scratch: &mut [Word], pivot: u
             lost += 1;
         }
     }
-    members[kept..].copy_from_slice(&scratch[..lost]);
+    lists::copy(&mut members[kept..], &scratch[..lost]);
     kept
 }
 
@@ -114,7 +114,7 @@ pub fn build_structure(
     let m = members.len();
     let sorted = &mut copy[..m];
     let spare = &mut scratch[..m];
-    sorted.copy_from_slice(members);
+    lists::copy(sorted, members);
     let size = build_node(&Level::root(frames), sorted, spare, nodes);
     sorted.fill(0);
     spare.fill(0);

@@ -47,5 +47,5 @@ returns c =
     c.clear_words.ensures ∙ label_end c.args.work.now (c.args.frames.now.ready, c.requires.0, c.requires.1, c.requires.2) c.sort_frames.ensures
     (put_together h c.split_at_mut-low.result.0.now high c.split_at_mut-cells.result.0.now c.split_at_mut-cells.result.1.now told c.split_at_mut-told.result.1.now f.n
     c.split_at_mut-low.ensures.front_len c.split_at_mut-low.ensures.value c.split_at_mut-told.ensures.value c.split_at_mut-cells.ensures.front c.split_at_mut-cells.ensures.back
-    D d (c.copy_from_slice.ensures.after ∙ is_told)
+    D d (c.copy.ensures ∙ is_told)
     (zeros ∙ sym (told_clear h f.n (omega (arith, label_length c.args.work.now (c.args.frames.now.ready, c.requires.0, c.requires.1, c.requires.2) c.sort_frames.ensures, c.requires.1)) high c.split_at_mut-low.ensures.back told c.split_at_mut-told.ensures.front (label_clear c.args.work.now (c.args.frames.now.ready, c.requires.0, c.requires.1, c.requires.2) c.sort_frames.ensures))))

@@ -7,14 +7,14 @@ use Rattle.tree_structure.proofs.build_structure.Goals as goal
 pub build_node-size-requires : goal.build_node-size-requires
 build_node-size-requires c =
     let e = c.root.ensures in
-    record { room = rw (e.0, e.1, e.2, c.copy_from_slice.ensures.after) (room_cut (root_room (few_levels c.args.frames.now.ready) (rw at_levels at c.requires.room))) }
+    record { room = rw (e.0, e.1, e.2, c.copy.ensures) (room_cut (root_room (few_levels c.args.frames.now.ready) (rw at_levels at c.requires.room))) }
 
 pub returns-clause-size : goal.returns-clause-size
 returns-clause-size c =
     let e = c.root.ensures in
-    rw at_levels (rw (e.0, e.1, e.2, c.copy_from_slice.ensures.after) at c.build_node-size.ensures.size)
+    rw at_levels (rw (e.0, e.1, e.2, c.copy.ensures) at c.build_node-size.ensures.size)
 
 pub returns-clause-words : goal.returns-clause-words
 returns-clause-words c =
     let e = c.root.ensures in
-    rw at_levels (rw (e.0, e.1, e.2, c.copy_from_slice.ensures.after) at c.build_node-size.ensures.words)
+    rw at_levels (rw (e.0, e.1, e.2, c.copy.ensures) at c.build_node-size.ensures.words)

@@ -53,11 +53,11 @@ loop-i-preserved c =
       | else-shares_box w ↦ rw (w.members-is, w.scratch-is, w.kept-is, w.lost-is) (spread_lose c.loop-i.invariant c.loop-i-test.true c.from.ensures e w.if-shares_box.false)
     ]
 
-pub copy_from_slice-requires : goal.copy_from_slice-requires
-copy_from_slice-requires c = spread_fits c.loop-i.invariant c.loop-i-test.false
+pub copy-requires : goal.copy-requires
+copy-requires c = spread_fits c.loop-i.invariant c.loop-i-test.false
 
 pub returns-clause-kept : goal.returns-clause-kept
 returns-clause-kept c = spread_kept c.loop-i.invariant c.loop-i-test.false
 
 pub returns-clause-members_after : goal.returns-clause-members_after
-returns-clause-members_after c = spread_end c.loop-i.invariant c.loop-i-test.false _ c.copy_from_slice.ensures.after
+returns-clause-members_after c = spread_end c.loop-i.invariant c.loop-i-test.false _ c.copy.ensures

@@ -9,7 +9,7 @@ use Rattle.clustering.proofs.marks.mark_cells.Goals as goal
 
 pub write_runs-requires : goal.write_runs-requires
 write_runs-requires c =
-    let e : length c.copy_from_slice.new.self ≡ length c.args.leaders.now = ap length (c.copy_from_slice.ensures.after ∙ c.flatten.ensures) ∙ length_numbers (root c.args.leaders.now) (length c.args.leaders.now) in
+    let e : length c.copy.new.words ≡ length c.args.leaders.now = ap length (c.copy.ensures ∙ c.flatten.ensures) ∙ length_numbers (root c.args.leaders.now) (length c.args.leaders.now) in
     (λ x i. omega (arith, e, c.requires.1 x i), c.requires.4, c.requires.2)
 
 pub returns-clause-runs : goal.returns-clause-runs
@@ -17,4 +17,4 @@ returns-clause-runs c =
     let low = root c.args.leaders.now in
     let n = length c.args.leaders.now in
     c.write_runs.ensures
-    ∙ ap runs_of (map_same _ low c.args.cells.now (λ x i. ap (λ ms. get_or ms x 0) (c.copy_from_slice.ensures.after ∙ c.flatten.ensures) ∙ at_numbers low 0 n x (c.requires.1 x i)))
+    ∙ ap runs_of (map_same _ low c.args.cells.now (λ x i. ap (λ ms. get_or ms x 0) (c.copy.ensures ∙ c.flatten.ensures) ∙ at_numbers low 0 n x (c.requires.1 x i)))
