@@ -13,7 +13,7 @@ loop-k-preserved c = elim c.if-k-self.branch [
   | then-k-self w ↦
       let a : Count (get_or c.frame-a.result.now c.loop-k.k (pos 0)) = omega arith in
       let b : Count (get_or c.frame-b.result.now c.loop-k.k (pos 0)) = omega arith in
-      rw w.sum-is (squares_more c.loop-k.invariant (omega arith) (omega arith) a b w.square-sum.result w.square-sum.ensures.value w.square-sum.ensures.bound)
+      rw w.sum-is (squares_more c.loop-k.invariant (omega arith) (omega arith) a b w.square-sum.result w.square-sum.ensures.value (grind arith) w.square-sum.ensures.bound)
   | else-k-self w ↦ rw w.sum-is (squares_past c.loop-k.invariant (omega arith))
 ]
 
