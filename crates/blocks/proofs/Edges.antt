@@ -1,7 +1,7 @@
 -- Blocks in arrays: the counts of a frame as the program reads them, their edges, a row compared channel by channel, and the bucket of a block.
 use mathlib.Core.Path.{◌≡◌, refl, sym, ap, ap₂, ◌∙◌}
 use mathlib.Core.Logic.{inl, inr}
-use mathlib.Core.Bool.{Bool, true, ◌&&◌}
+use mathlib.Core.Bool.{Bool, true, false, ◌&&◌}
 use mathlib.Core.List.{List, [], ◌∷◌}
 use Prim.Native.Nat.{ℕ, zero, suc, ◌+◌, ◌-◌, ◌*◌, ◌/◌, ◌%◌, ◌^◌, ◌<◌, ◌≤◌}
 use native.Mathlib.Nat.{sub-zero}
@@ -137,11 +137,15 @@ module _ (w : ℕ) (es : List ℕ) (f : Frame) where
           ∙ ap₂ (λ (x y : ℕ). eqb x y && same_from (suc k)) (at_map (λ c. edge w (raise c)) (pos 0) 0 f k h ∙ ap (λ (z : ℤ). edge w (raise z)) (sym (read (get_or f k (pos 0)) b))) (low_at k p h ∙ ap (λ (x : ℕ). get_or es k 0 + w * (m / 2 ^ x % 2)) (sym e))
           ∙ ap₂ (λ (t : Bool) (j : ℕ). t && same_from j) (sym q) d
 
-      pub all_same : (k : ℕ) → length f ≤ k → true ≡ same_from k
-      all_same k h =
+      pub all_same : (k : ℕ) {t : Bool} → length f ≤ k → t ≡ true → t ≡ same_from k
+      all_same k h u =
           let a : length (key_of w f) ≤ k = omega (arith, h, length-map f (λ c. edge w (raise c))) in
           let b : length (0 ∷ L) ≤ k = omega (arith, h, low_long) in
-          ap₂ same_nats (sym (drop_of_length-le (key_of w f) a)) (sym (drop_of_length-le (0 ∷ L) b))
+          u ∙ ap₂ same_nats (sym (drop_of_length-le (key_of w f) a)) (sym (drop_of_length-le (0 ∷ L) b))
+
+    -- channel k differs
+    pub one_differs : (k : ℕ) {t u : Bool} → same_from k ≡ t && same_from (k + 1) → t ≡ false → u ≡ false → u ≡ same_from k
+    one_differs k n e z = z ∙ sym (n ∙ ap (λ (t : Bool). t && same_from (k + 1)) e)
 
     pub same_first : same_from 1 ≡ same_nats (key_of w (drop 1 f)) (shifted w (take (length f - 1) (drop 1 es)) m)
     same_first = ap (λ (l : List ℕ). same_nats l L) (later w f)

@@ -26,24 +26,25 @@ part_at w e s b q h = ap (λ (l : List ℕ). get_or l b 0) q ∙ at_numbers (λ 
 
 -- row m of an array of four
 pub row_is : (w : ℕ) (l : List ℕ) → length l ≡ 4 → {a b c : List ℕ} → a ≡ column (λ b. spread (get_or l 1 0 + w * b + 1)) 2 → b ≡ column (λ b. spread (get_or l 2 0 + w * b + 65537)) 2 → c ≡ column (λ b. spread (get_or l 3 0 + w * b + 131073)) 2
-    → (m : ℕ) → get_or a (m % 2) 0 + get_or b (m / 2 % 2) 0 + get_or c (m / 4 % 2) 0 ≡ row_hash (shifted w (drop 1 l) m)
+    → (m : ℕ) {j : ℕ} → j ≡ m → get_or a (j % 2) 0 + get_or b (j / 2 % 2) 0 + get_or c (j / 4 % 2) 0 ≡ row_hash (shifted w (drop 1 l) m)
 unfolding row_hash
-row_is w [] h p q r m = absurd (omega arith)
-row_is w (x ∷ []) h p q r m = absurd (omega arith)
-row_is w (x ∷ e₁ ∷ []) h p q r m = absurd (omega arith)
-row_is w (x ∷ e₁ ∷ e₂ ∷ []) h p q r m = absurd (omega arith)
-row_is w (x ∷ e₁ ∷ e₂ ∷ e₃ ∷ []) h p q r m =
+row_is w [] h p q r m z = absurd (omega arith)
+row_is w (x ∷ []) h p q r m z = absurd (omega arith)
+row_is w (x ∷ e₁ ∷ []) h p q r m z = absurd (omega arith)
+row_is w (x ∷ e₁ ∷ e₂ ∷ []) h p q r m z = absurd (omega arith)
+row_is w (x ∷ e₁ ∷ e₂ ∷ e₃ ∷ []) h {a} {b} {c} p q r m z =
     let d : m / 4 ≡ m / 2 / 2 = omega arith in
-    ap₂ ◌+◌ (ap₂ ◌+◌ (part_at w e₁ 1 (m % 2) p (mod-lt m (omega arith))) (part_at w e₂ 65537 (m / 2 % 2) q (mod-lt (m / 2) (omega arith)))) (part_at w e₃ 131073 (m / 4 % 2) r (mod-lt (m / 4) (omega arith)) ∙ ap (λ (k : ℕ). spread (e₃ + w * (k % 2) + 131073)) d)
-row_is w (x ∷ e₁ ∷ e₂ ∷ e₃ ∷ y ∷ l) h p q r m = absurd (omega arith)
+    ap (λ (j : ℕ). get_or a (j % 2) 0 + get_or b (j / 2 % 2) 0 + get_or c (j / 4 % 2) 0) z
+    ∙ ap₂ ◌+◌ (ap₂ ◌+◌ (part_at w e₁ 1 (m % 2) p (mod-lt m (omega arith))) (part_at w e₂ 65537 (m / 2 % 2) q (mod-lt (m / 2) (omega arith)))) (part_at w e₃ 131073 (m / 4 % 2) r (mod-lt (m / 4) (omega arith)) ∙ ap (λ (k : ℕ). spread (e₃ + w * (k % 2) + 131073)) d)
+row_is w (x ∷ e₁ ∷ e₂ ∷ e₃ ∷ y ∷ l) h p q r m z = absurd (omega arith)
 
 -- the next row after those that are worked out
 pub row_next : (h : ℕ → ℕ) (xs : List ℕ) (m : ℕ) {y n : ℕ} → m < n → (length xs ≡ n) × (take m xs ≡ column h m) → y ≡ h m → (length (set xs m y) ≡ n) × (take (m + 1) (set xs m y) ≡ column h (m + 1))
 row_next h xs m {y} b (l, e) q = (length-set xs m y ∙ l, take_more_set xs m y (omega (arith, l)) ∙ ap₂ (λ (ys : List ℕ) (z : ℕ). ys ++ (z ∷ [])) e q ∙ sym (column_snoc h m))
 
 -- a part's place
-pub part_small : (xs : List ℕ) (m : ℕ) → length xs ≡ 2 → Below hashes xs → get_or xs (m % 2) 0 < hashes
-part_small xs m l b = below_at hashes xs (m % 2) b (omega (arith, l, mod-lt m {m = 2} (omega arith)))
+pub part_small : (xs : List ℕ) → length xs ≡ 2 → Below hashes xs → (b : ℕ) → b < 2 → get_or xs b 0 < hashes
+part_small xs l s b h = below_at hashes xs b s (omega (arith, l))
 
 spread_below : (x : ℕ) → spread x < hashes
 unfolding spread

@@ -1,7 +1,7 @@
 -- An array filled with what is made of each count of a frame: one count more, and all of them.
 use mathlib.Core.Path.{◌≡◌, sym, ap, subst, ◌∙◌}
 use mathlib.Core.List.{List, [], ◌∷◌, ◌++◌, map}
-use Prim.Native.Nat.{ℕ, ◌+◌, ◌<◌}
+use Prim.Native.Nat.{ℕ, zero, suc, ◌+◌, ◌<◌}
 use native.Mathlib.Decide.{ℕ_discrete}
 use native.Mathlib.Omega.{arith}
 use lib.IntN.{ℤ, pos}
@@ -44,3 +44,15 @@ module _ {A : Type 0} {R : ℤ → A → Type 0} {frame : Frame} {z : A} where
   pub placed_map : {row : List A} → Placed R frame z row (length frame) → (g : ℤ → A) → ((c : ℤ) (x : A) → Count c → R c x → x ≡ g c) → row ≡ over (replicate 4 z) 0 (map g frame)
   placed_map p g e = p.row_is ∙ ap (over (replicate 4 z) 0) (ext_get_or z p.values (map g frame) (p.long ∙ sym (length-map frame g))
       (λ k h. let q = p.each k (omega (arith, p.long)) in e _ _ q.0 q.1 ∙ sym (get_or-map g frame k (pos 0) z (omega (arith, p.long)))))
+
+-- an array of four that has the elements of another
+pub four_alike : {A : Type 0} (z : A) {xs ys l : List A} → ys ≡ l → length ys ≡ 4 → length xs ≡ 4
+    → get_or xs 0 z ≡ get_or ys 0 z → get_or xs 1 z ≡ get_or ys 1 z → get_or xs 2 z ≡ get_or ys 2 z → get_or xs 3 z ≡ get_or ys 3 z → xs ≡ l
+four_alike {A} z {xs} {ys} e ly lx a b c d = ext_get_or z xs ys (lx ∙ sym ly) go ∙ e
+  where
+    go : (k : ℕ) → k < length xs → get_or xs k z ≡ get_or ys k z
+    go zero h = a
+    go (suc zero) h = b
+    go (suc (suc zero)) h = c
+    go (suc (suc (suc zero))) h = d
+    go (suc (suc (suc (suc k)))) h = absurd (omega arith)

@@ -1,5 +1,5 @@
 -- The indexes of a lent frame: as they stand in an array, and one channel more of their comparison with an array.
-use mathlib.Core.Path.{◌≡◌, sym, ap, ◌∙◌}
+use mathlib.Core.Path.{◌≡◌, refl, sym, ap, ◌∙◌}
 use mathlib.Core.Bool.{Bool, true, false, ◌&&◌}
 use mathlib.Core.List.{List}
 use Prim.Native.Nat.{ℕ, ◌+◌, ◌^◌, ◌≤◌, ◌<◌}
@@ -57,16 +57,17 @@ module _ (n : ℕ) (side : Float) (at xs : List ℤ) (few : n ≤ 4) (long : len
     bits_same : of_z w64 x ≡ of_z w64 (get_or at k (pos 0)) → get_or at k (pos 0) ≡ get_or (indexes side xs) k (pos 0)
     bits_same q = sym (to_z-of_z {w = w64} (record { sfits = ga })) ∙ ap (to_z w64) (sym q) ∙ to_z-of_z {w = w64} (record { sfits = gx }) ∙ here
 
-    pub agrees : of_z w64 x ≡ of_z w64 (get_or at k (pos 0)) → same_rest n at (indexes side xs) (k + 1) ≡ same_rest n at (indexes side xs) k
-    agrees q = same_step n at (indexes side xs) (omega arith) ys_length k b (bits_same q)
+    -- z has the bits of the index k of `at`
+    pub agrees : {z : ℕ} → of_z w64 x ≡ z → z ≡ of_z w64 (get_or at k (pos 0)) → same_rest n at (indexes side xs) (k + 1) ≡ same_rest n at (indexes side xs) k
+    agrees q e = same_step n at (indexes side xs) (omega arith) ys_length k b (bits_same (q ∙ e))
 
-    pub differs : (of_z w64 x ≡ of_z w64 (get_or at k (pos 0)) → ⊥) → false ≡ same_rest n at (indexes side xs) k
-    differs q = same_stop n at (indexes side xs) (omega arith) ys_length k b (λ z. q (ap (of_z w64) (here ∙ sym z)))
+    pub differs : {z : ℕ} {t : Bool} → (of_z w64 x ≡ z → ⊥) → z ≡ of_z w64 (get_or at k (pos 0)) → t ≡ false → t ≡ same_rest n at (indexes side xs) k
+    differs q e r = r ∙ same_stop n at (indexes side xs) (omega arith) ys_length k b (λ i. q (ap (of_z w64) (here ∙ sym i) ∙ sym e))
 
   -- no channel is left
-  pub all_agree : n ≤ k → true ≡ same_rest n at (indexes side xs) k
-  all_agree q = same_done n at (indexes side xs) (omega arith) ys_length k q
+  pub all_agree : {t : Bool} → n ≤ k → t ≡ true → t ≡ same_rest n at (indexes side xs) k
+  all_agree q e = e ∙ same_done n at (indexes side xs) (omega arith) ys_length k q
 
   -- a channel that is not used
   pub agrees_past : n ≤ k → same_rest n at (indexes side xs) (k + 1) ≡ same_rest n at (indexes side xs) k
-  agrees_past q = sym (same_done n at (indexes side xs) (omega arith) ys_length (k + 1) (omega arith)) ∙ all_agree q
+  agrees_past q = sym (same_done n at (indexes side xs) (omega arith) ys_length (k + 1) (omega arith)) ∙ all_agree q refl

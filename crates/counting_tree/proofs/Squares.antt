@@ -21,18 +21,18 @@ pub record Squares (xs ys : Frame) (k sum : ℕ) : Type 0 where
 pub squares_none : (xs ys : Frame) → Squares xs ys 0 0
 squares_none xs ys = record { value = zero-add (squared xs ys); bound = omega arith }
 
--- q is the square of the difference of counts k
-pub squares_more : {xs ys : Frame} {k sum : ℕ} → Squares xs ys k sum → k < length xs → k < length ys → Count (get_or xs k (pos 0)) → Count (get_or ys k (pos 0)) → (q : ℕ)
-    → q ≡ apart (to_z w16 (of_z w16 (get_or xs k (pos 0)))) (to_z w16 (of_z w16 (get_or ys k (pos 0)))) * apart (to_z w16 (of_z w16 (get_or xs k (pos 0)))) (to_z w16 (of_z w16 (get_or ys k (pos 0)))) → q ≤ 2 ^ 32
+-- q is r, the square of the difference of counts k
+pub squares_more : {xs ys : Frame} {k sum : ℕ} → Squares xs ys k sum → k < length xs → k < length ys → Count (get_or xs k (pos 0)) → Count (get_or ys k (pos 0)) → (q : ℕ) {r : ℕ}
+    → q ≡ r → r ≡ apart (to_z w16 (of_z w16 (get_or xs k (pos 0)))) (to_z w16 (of_z w16 (get_or ys k (pos 0)))) * apart (to_z w16 (of_z w16 (get_or xs k (pos 0)))) (to_z w16 (of_z w16 (get_or ys k (pos 0)))) → q ≤ 2 ^ 32
     → Squares xs ys (k + 1) (sum + q)
-squares_more {xs} {ys} {k} {sum} s hx hy cx cy q e b = record {
+squares_more {xs} {ys} {k} {sum} s hx hy cx cy q e i b = record {
   value = ap (λ (m : ℕ). sum + q + squared (drop m xs) (drop m ys)) (add-one k) ∙ add_assoc sum q _ ∙ ap (λ (m : ℕ). sum + m) (sym split) ∙ s.value;
   bound = omega (arith, s.bound);
 }
   where
     split : squared (drop k xs) (drop k ys) ≡ q + squared (drop (suc k) xs) (drop (suc k) ys)
     split = ap₂ squared (drop-cons xs k (pos 0) hx) (drop-cons ys k (pos 0) hy)
-        ∙ ap (λ (m : ℕ). m + squared (drop (suc k) xs) (drop (suc k) ys)) (sym (e ∙ ap₂ (λ (z w : ℤ). apart z w * apart z w) (read (get_or xs k (pos 0)) cx) (read (get_or ys k (pos 0)) cy)))
+        ∙ ap (λ (m : ℕ). m + squared (drop (suc k) xs) (drop (suc k) ys)) (sym (e ∙ i ∙ ap₂ (λ (z w : ℤ). apart z w * apart z w) (read (get_or xs k (pos 0)) cx) (read (get_or ys k (pos 0)) cy)))
 
 -- a channel that is not used
 pub squares_past : {xs ys : Frame} {k sum : ℕ} → Squares xs ys k sum → length xs ≤ k → Squares xs ys (k + 1) sum

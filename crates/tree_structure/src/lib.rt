@@ -151,7 +151,8 @@ fn count_node(level: &Level, tree: &[Word], q: usize) -> Option<Counted>
                 return Some(here);
             }
             let children = &tree[4..4 * node.size];
-            count_list(&level.below(), children, q)
+            let below = level.below();
+            count_list(&below, children, q)
         }
     }
 }

@@ -6,11 +6,12 @@ use native.Mathlib.Nat.{mod-lt}
 use native.Mathlib.Omega.{arith}
 use lib.IntN.{pos}
 use lib.ListN.{get_or, take, drop}
+use Rattle.std.proofs.lemmas.Grind.{common_steps}
 use Rattle.lists.specs.OrderLaws.{below_at}
 use Rattle.counting_tree.specs.Domain.{Count}
 use Rattle.counting_tree.specs.Frames.{Frame}
 use Rattle.blocks.specs.Blocks.{key_of, shifted, same_nats}
-use Rattle.blocks.proofs.Edges.{same_from, same_next, same_first, all_same}
+use Rattle.blocks.proofs.Edges.{same_from, same_next, one_differs, same_first, all_same}
 use Rattle.blocks.proofs.in_row.Goals as goal
 
 pub holds-requires : goal.holds-requires
@@ -23,7 +24,7 @@ returns-then-not-holds c =
     let m = c.args.frames.now.ready.settings.scale.most in
     let l = c.frame-frame.ensures.long in
     let n = same_next c.args.width c.args.first F c.args.m (omega (arith, m, l, c.well_formed.1.1.0.1.0.1)) (omega (arith, l, c.loop-k-test.true)) c.loop-k.k c.loop-k.auto.k (omega (arith, l, c.loop-k-test.true)) a c.holds.ensures (grind arith) in
-    sym (n ∙ ap (λ (t : Bool). t && same_from c.args.width c.args.first F c.args.m (c.loop-k.k + 1)) c.if-not-holds.true) ∙ c.loop-k.invariant
+    one_differs c.args.width c.args.first F c.args.m c.loop-k.k n c.if-not-holds.true (grind (arith, common_steps)) ∙ c.loop-k.invariant
     ∙ same_first c.args.width c.args.first F c.args.m ∙ ap₂ (λ (f : Frame) (d : ℕ). same_nats (key_of c.args.width (drop 1 f)) (shifted c.args.width (take (d - 1) (drop 1 c.args.first)) c.args.m)) c.frame-frame.ensures.value l
 
 pub loop-k-preserved : goal.loop-k-preserved
@@ -41,5 +42,5 @@ returns c =
     let m = c.args.frames.now.ready.settings.scale.most in
     let s = c.args.frames.now.ready.settings.scale.some in
     let l = c.frame-frame.ensures.long in
-    all_same c.args.width c.args.first F c.args.m (omega (arith, m, l, c.well_formed.1.1.0.1.0.1)) (omega (arith, l, s)) c.loop-k.k (omega (arith, l, c.loop-k-test.false)) ∙ c.loop-k.invariant
+    all_same c.args.width c.args.first F c.args.m (omega (arith, m, l, c.well_formed.1.1.0.1.0.1)) (omega (arith, l, s)) c.loop-k.k (omega (arith, l, c.loop-k-test.false)) (grind (arith, common_steps)) ∙ c.loop-k.invariant
     ∙ same_first c.args.width c.args.first F c.args.m ∙ ap₂ (λ (f : Frame) (d : ℕ). same_nats (key_of c.args.width (drop 1 f)) (shifted c.args.width (take (d - 1) (drop 1 c.args.first)) c.args.m)) c.frame-frame.ensures.value l

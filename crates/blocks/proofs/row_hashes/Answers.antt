@@ -1,6 +1,6 @@
 -- Two parts a channel, and of each row the sum of its own.
 use mathlib.Core.Path.{◌≡◌, sym, ap, subst, ◌∙◌}
-use Prim.Native.Nat.{◌*◌, ◌/◌}
+use Prim.Native.Nat.{◌*◌}
 use native.Mathlib.Omega.{arith}
 use lib.ListN.{length, drop}
 use Rattle.std.proofs.lemmas.List.{take_all}
@@ -22,15 +22,22 @@ pub parts-three-requires : goal.parts-three-requires
 parts-three-requires c = (below_at 65536 c.args.first 3 c.requires.0 (omega (arith, c.well_formed.0.1.0.1)), c.requires.1, omega arith)
 
 pub overflow_add-hashes : goal.overflow_add-hashes
-overflow_add-hashes c = record { fits = omega (arith, part_small c.parts-one.result c.loop-m.m (ap length c.parts-one.ensures.value) c.parts-one.ensures.below, part_small c.parts-two.result (c.loop-m.m / 2) (ap length c.parts-two.ensures.value) c.parts-two.ensures.below) }
+overflow_add-hashes c =
+    let a = part_small c.parts-one.result (ap length c.parts-one.ensures.value) c.parts-one.ensures.below in
+    let b = part_small c.parts-two.result (ap length c.parts-two.ensures.value) c.parts-two.ensures.below in
+    record { fits = grind (arith, a, b) }
 
 pub overflow_add-hashes-in-loop-m : goal.overflow_add-hashes-in-loop-m
-overflow_add-hashes-in-loop-m c = record { fits = omega (arith, part_small c.parts-one.result c.loop-m.m (ap length c.parts-one.ensures.value) c.parts-one.ensures.below, part_small c.parts-two.result (c.loop-m.m / 2) (ap length c.parts-two.ensures.value) c.parts-two.ensures.below, part_small c.parts-three.result (c.loop-m.m / 4) (ap length c.parts-three.ensures.value) c.parts-three.ensures.below) }
+overflow_add-hashes-in-loop-m c =
+    let a = part_small c.parts-one.result (ap length c.parts-one.ensures.value) c.parts-one.ensures.below in
+    let b = part_small c.parts-two.result (ap length c.parts-two.ensures.value) c.parts-two.ensures.below in
+    let d = part_small c.parts-three.result (ap length c.parts-three.ensures.value) c.parts-three.ensures.below in
+    record { fits = grind (arith, a, b, d) }
 
 pub loop-m-preserved : goal.loop-m-preserved
 loop-m-preserved c =
     row_next (λ m. row_hash (shifted c.args.width (drop 1 c.args.first) m)) c.loop-m.hashes c.loop-m.m c.loop-m-test.true c.loop-m.invariant
-    (row_is c.args.width c.args.first c.well_formed.0.1.0.1 c.parts-one.ensures.value c.parts-two.ensures.value c.parts-three.ensures.value c.loop-m.m)
+    (row_is c.args.width c.args.first c.well_formed.0.1.0.1 c.parts-one.ensures.value c.parts-two.ensures.value c.parts-three.ensures.value c.loop-m.m (grind arith))
 
 pub returns-clause-value : goal.returns-clause-value
 returns-clause-value c =

@@ -43,17 +43,17 @@ count_node-slice_bounds-children-start t c = omega (arith, c.read-node.ensures.s
 pub count_node-count_list-requires : goal.count_node-count_list-requires
 count_node-count_list-requires t c =
     let p = c.requires.tree in
-    let e = c.below.ensures in
+    let e = c.below-below.ensures in
     let ws = c.args.tree.now in (
       omega (arith, c.decreases, e.2, c.if-level-eq0.false, c.read-node.ensures.size, tree_size p.1, tree_fit p.1, length-take (4 * c.read-node.result.size - 4) (drop 4 ws), length-drop 4 ws),
-      (rw e.0 c.requires.ready, (_, children_of c.args.level.now c.below.result e.0 e.1 e.2 p.1 c.if-level-eq0.false c.read-node.ensures.size)),
+      (rw e.0 c.requires.ready, (_, children_of c.args.level.now c.below-below.result e.0 e.1 e.2 p.1 c.if-level-eq0.false c.read-node.ensures.size)),
     )
 
 pub count_node-returns-else-level-eq0 : goal.count_node-returns-else-level-eq0
 count_node-returns-else-level-eq0 t c = λ xs u.
-    let e = c.below.ensures in
+    let e = c.below-below.ensures in
     let b = box_read c.args.level.now c.args.q u c.read-node.ensures.first c.in-Intersecting.ensures in
-    let m = children_of c.args.level.now c.below.result e.0 e.1 e.2 u c.if-level-eq0.false c.read-node.ensures.size in
+    let m = children_of c.args.level.now c.below-below.result e.0 e.1 e.2 u c.if-level-eq0.false c.read-node.ensures.size in
     let told = c.count_list.ensures _ m in
     on_inner _ _ _ _ xs c.if-level-eq0.false b (rw (e.0, e.1, e.2) at told)
 

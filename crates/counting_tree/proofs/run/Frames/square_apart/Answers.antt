@@ -14,7 +14,7 @@ pub loop-k-preserved : goal.loop-k-preserved
 loop-k-preserved c =
     let a : Count (get_or c.frame-a.result.now c.loop-k.k (pos 0)) = omega arith in
     let b : Count (get_or c.frame-b.result.now c.loop-k.k (pos 0)) = omega arith in
-    squares_more c.loop-k.invariant (omega arith) (omega arith) a b c.square-sum.result c.square-sum.ensures.value c.square-sum.ensures.bound
+    squares_more c.loop-k.invariant (omega arith) (omega arith) a b c.square-sum.result c.square-sum.ensures.value (grind arith) c.square-sum.ensures.bound
 
 pub returns-clause-counts : goal.returns-clause-counts
 returns-clause-counts c = (ready_counts c.args.self.now.ready c.args.self.now.counts c.args.i c.requires.0, ready_counts c.args.self.now.ready c.args.self.now.counts c.args.j c.requires.1)
