@@ -75,8 +75,11 @@ module _ (s : Search) where
     pub row_fits : let n = s.around.frames.now.n in (x.«from» ≤ x.to) × (x.to ≤ n) × (x.rest ≤ n)
     row_fits = let a = s.around in let f = a.frames.now in Neighbours.stretch_fits f.v f.n f.points.now a.i m a.inside by_block stretch_is
 
-    pub row_near : let a = s.around in let f = a.frames.now in part s.sorted.sorted.now x.«from» (x.to - x.«from») ++ take x.rest s.sorted.sorted.now ≡ frames_near f.v f.n f.points.now a.i m
-    row_near = let a = s.around in let f = a.frames.now in Neighbours.near_is f.v f.n f.points.now a.i m a.inside by_block stretch_is
+    pub row_near : {«from» to : ℕ} → «from» ≡ x.«from» → to ≡ x.to
+        → let a = s.around in let f = a.frames.now in part s.sorted.sorted.now «from» (to - «from») ++ take x.rest s.sorted.sorted.now ≡ frames_near f.v f.n f.points.now a.i m
+    row_near p q =
+        let a = s.around in let f = a.frames.now in
+        ap₂ (λ (y z : ℕ). part s.sorted.sorted.now y (z - y) ++ take x.rest s.sorted.sorted.now) p q ∙ Neighbours.near_is f.v f.n f.points.now a.i m a.inside by_block stretch_is
 
 -- what is said of the frames and frame i of a search is said of those that it was made of, and the other way
 module _ (P : Frames → ℕ → Type 0) (s : Search) {f : Frames} {i : ℕ} (e : (s.around.frames.now ≡ f) × (s.around.i ≡ i)) where

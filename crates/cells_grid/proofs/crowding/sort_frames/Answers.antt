@@ -13,7 +13,7 @@ pub loop-j-init : goal.loop-j-init
 loop-j-init c = fill_start (omega (arith, c.split_at_mut-keys.ensures.front_len))
 
 pub loop-j-preserved : goal.loop-j-preserved
-loop-j-preserved c = fill_step c.loop-j.invariant (omega (arith, c.loop-j-test.true, c.split_at_mut-keys.ensures.front_len)) c.key.result _ (sym (zero-add c.loop-j.j)) (frame_key_lem c.args.frames.now.v c.args.frames.now.n c.args.frames.now.points.now c.loop-j.j c.width-width.ensures c.key.ensures.value)
+loop-j-preserved c = fill_step c.loop-j.invariant (omega (arith, c.loop-j-test.true, c.split_at_mut-keys.ensures.front_len)) _ _ (sym (zero-add c.loop-j.j)) (omega (arith, frame_key_lem c.args.frames.now.v c.args.frames.now.n c.args.frames.now.points.now c.loop-j.j c.width-width.ensures c.key.ensures.value))
 
 pub sort-requires-clause-keys : goal.sort-requires-clause-keys
 sort-requires-clause-keys c =

@@ -11,7 +11,7 @@ pub offset_bounds-sorted-s : goal.offset_bounds-sorted-s
 offset_bounds-sorted-s c = omega (arith, row_fits c.args.self.now c.args.m c.stretch-s.ensures, c.args.self.now.around.frames.now.ready.few)
 
 pub slice_bounds-result-count : goal.slice_bounds-result-count
-slice_bounds-result-count c = (row_fits c.args.self.now c.args.m c.stretch-s.ensures).0
+slice_bounds-result-count c = omega (arith, row_fits c.args.self.now c.args.m c.stretch-s.ensures)
 
 pub slice_bounds-result-start : goal.slice_bounds-result-start
 slice_bounds-result-start c = omega (arith, row_fits c.args.self.now c.args.m c.stretch-s.ensures)
@@ -23,4 +23,4 @@ pub slice_bounds-result-end-2 : goal.slice_bounds-result-end-2
 slice_bounds-result-end-2 c = sym (length-take-le c.stretch-s.result.rest c.args.self.now.sorted.sorted.now (omega (arith, row_fits c.args.self.now c.args.m c.stretch-s.ensures, row_room c.args.self.now)))
 
 pub returns : goal.returns
-returns c = row_near c.args.self.now c.args.m c.stretch-s.ensures
+returns c = row_near c.args.self.now c.args.m c.stretch-s.ensures (omega arith) (omega arith)
