@@ -18,7 +18,7 @@ use Rattle.counting_tree.specs.Geometry.{Geometry}
 use Rattle.counting_tree.specs.Given.{geometry}
 use Rattle.cells_grid.specs.Cells.{cells, core_cell}
 use Rattle.cells_grid.specs.Arrangement.{cell_at}
-use Rattle.cells_grid.specs.Listing.{cell_places, later_of, unlike, Marked}
+use Rattle.cells_grid.specs.Listing.{cell_places, later_of, unlike, MarkedRuns, Marked}
 use Rattle.cells_grid.specs.declared.grid.CellsGrid.{CellsGrid}
 use Rattle.cells_grid.proofs.ListingLaws.{in_unmarked, later_sound}
 use Rattle.cells_grid.proofs.SortedLaws.{places_length}
@@ -125,6 +125,10 @@ found s ms = unlike ms (later_of s.frames.v s.frames.n s.frames.points.now)
 -- each cell has a mark
 pub marked_low : (s : CellsGrid) {zs ms rs : List ℕ} → zs ≡ cell_places s.frames.v s.frames.n s.frames.points.now → Marked zs ms rs → {c : ℕ} → c < s.k → c < length ms
 marked_low s ez m h = omega (arith, h, m.marks, ap length ez, places_length s.frames.ready, s.arranged.count)
+
+-- and, where the same cells stand, runs
+pub runs_there : {zs ys ms rs : List ℕ} → ys ≡ zs → Marked zs ms rs → (mark : ℕ) → MarkedRuns ys ms rs mark
+runs_there {zs} {ys} {ms} {rs} e m mark = subst (λ (xs : List ℕ). MarkedRuns xs ms rs mark) (sym e) (m.all mark)
 
 pub list_is : {s t : CellsGrid} → t ≡ s → (ms xs : List ℕ) (c : ℕ) {ys : List ℕ} {m : ℕ} → m ≡ length (unlike ms (later_of t.frames.v t.frames.n t.frames.points.now) c)
     → ys ≡ over xs 0 (unlike ms (later_of t.frames.v t.frames.n t.frames.points.now) c) → take m ys ≡ unlike ms (later_of s.frames.v s.frames.n s.frames.points.now) c

@@ -1,12 +1,9 @@
 use mathlib.Core.Path.{sym, ◌∙◌, subst}
 use Prim.Native.Nat.{ℕ, ◌<◌}
 use native.Mathlib.Omega.{arith}
-use mathlib.Core.List.{List}
-use lib.ListN.{get_or}
 use Rattle.lists.specs.Lists.{In}
-use Rattle.cells_grid.specs.Listing.{MarkedRuns}
 use Rattle.clustering.specs.Leading.{Leading}
-use Rattle.clustering.proofs.ByLists.{marked_low, found_below, rows_skip, rows_on, rows_end, list_is}
+use Rattle.clustering.proofs.ByLists.{marked_low, runs_there, found_below, rows_skip, rows_on, rows_end, list_is}
 use Rattle.clustering.proofs.Clearing.{again_on, cleared}
 use Rattle.clustering.proofs.links.meet_stage.Goals as goal
 
@@ -16,9 +13,7 @@ bounds-marks-c g c =
     marked_low c.args.cells.now.core.grid c.args.cells.now.placed c.requires.leaders.1 (omega (arith, s, c.loop-c.invariant.end, c.requires.cells.1))
 
 pub list_later-m-requires-clause-marked_runs : goal.list_later-m-requires-clause-marked_runs
-list_later-m-requires-clause-marked_runs g c =
-    let mark = get_or c.args.marks.now c.in-Some.c 0 in
-    subst (λ (zs : List ℕ). MarkedRuns zs c.args.marks.now c.args.runs.now mark) (sym c.sorted-sorted.ensures.1) (c.requires.leaders.1.all mark)
+list_later-m-requires-clause-marked_runs g c = runs_there c.sorted-sorted.ensures.1 c.requires.leaders.1 _
 
 pub meet_list-requires : goal.meet_list-requires
 meet_list-requires g c =

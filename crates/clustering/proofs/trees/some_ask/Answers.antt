@@ -1,10 +1,6 @@
-use mathlib.Core.Path.{sym, subst}
-use mathlib.Core.List.{List}
-use Prim.Native.Nat.{ℕ}
-use lib.ListN.{get_or}
+use mathlib.Core.Path.{subst}
 use Rattle.lists.specs.Lists.{In}
-use Rattle.cells_grid.specs.Listing.{MarkedRuns}
-use Rattle.clustering.proofs.ByLists.{marked_low, found_below, list_is}
+use Rattle.clustering.proofs.ByLists.{marked_low, runs_there, found_below, list_is}
 use Rattle.clustering.proofs.Clearing.{again_on, cleared}
 use Rattle.clustering.proofs.trees.some_ask.Goals as goal
 use Rattle.clustering.proofs.trees.some_ask.Goals.{then-has_core+else-ask, else-has_core}
@@ -13,9 +9,7 @@ pub bounds-marks-c : goal.bounds-marks-c
 bounds-marks-c c = marked_low c.args.cells.now.core.grid c.args.cells.now.placed c.requires.0 c.loop-c-test.true
 
 pub list_later-m-requires-clause-marked_runs : goal.list_later-m-requires-clause-marked_runs
-list_later-m-requires-clause-marked_runs c =
-    let mark = get_or c.args.marks.now c.loop-c.c 0 in
-    subst (λ (zs : List ℕ). MarkedRuns zs c.args.marks.now c.args.runs.now mark) (sym c.sorted-sorted.ensures.1) (c.requires.0.all mark)
+list_later-m-requires-clause-marked_runs c = runs_there c.sorted-sorted.ensures.1 c.requires.0 _
 
 pub asks_trees-ask-requires : goal.asks_trees-ask-requires
 asks_trees-ask-requires c = (
