@@ -1,5 +1,5 @@
 -- The sum of squared differences of two frames, one channel more of it.
-use mathlib.Core.Path.{◌≡◌, sym, ap, ap₂, ◌∙◌}
+use mathlib.Core.Path.{◌≡◌, sym, ap, ap₂, ◌∙◌, refl, subst}
 use Prim.Native.Nat.{ℕ, suc, ◌+◌, ◌*◌, ◌^◌, ◌≤◌, ◌<◌}
 use native.Mathlib.Nat.{zero-add, add_assoc}
 use native.Mathlib.Numerals.{add-one}
@@ -33,6 +33,14 @@ squares_more {xs} {ys} {k} {sum} s hx hy cx cy q e i b = record {
     split : squared (drop k xs) (drop k ys) ≡ q + squared (drop (suc k) xs) (drop (suc k) ys)
     split = ap₂ squared (drop-cons xs k (pos 0) hx) (drop-cons ys k (pos 0) hy)
         ∙ ap (λ (m : ℕ). m + squared (drop (suc k) xs) (drop (suc k) ys)) (sym (e ∙ i ∙ ap₂ (λ (z w : ℤ). apart z w * apart z w) (read (get_or xs k (pos 0)) cx) (read (get_or ys k (pos 0)) cy)))
+
+-- that of the first
+pub squares_one : {xs ys : Frame} → 0 < length xs → 0 < length ys → Count (get_or xs 0 (pos 0)) → Count (get_or ys 0 (pos 0)) → (q : ℕ)
+    → q ≡ apart (to_z w16 (of_z w16 (get_or xs 0 (pos 0)))) (to_z w16 (of_z w16 (get_or ys 0 (pos 0)))) * apart (to_z w16 (of_z w16 (get_or xs 0 (pos 0)))) (to_z w16 (of_z w16 (get_or ys 0 (pos 0)))) → q ≤ 2 ^ 32
+    → Squares xs ys 1 q
+squares_one {xs} {ys} hx hy cx cy q e b =
+    let s : Squares xs ys 1 (0 + q) = squares_more (squares_none xs ys) hx hy cx cy q e refl b in
+    subst (λ (m : ℕ). Squares xs ys 1 m) (zero-add q) s
 
 -- a channel that is not used
 pub squares_past : {xs ys : Frame} {k sum : ℕ} → Squares xs ys k sum → length xs ≤ k → Squares xs ys (k + 1) sum

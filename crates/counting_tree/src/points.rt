@@ -84,8 +84,8 @@ impl Frames<'_> {
     {
         let a = self.frame(i);
         let b = self.frame(j);
-        let mut sum = 0;
-        for k in 0..4 {
+        let mut sum = square(a[0], b[0]);
+        for k in 1..4 {
             if k >= self.v.channels {
                 return sum;
             }
