@@ -73,13 +73,16 @@ module _ (s : CoreCells) where
     core_frames q = ap (keep (core g)) q
 
     -- its root box
-    pub first_inside : (s.grid.frames.v.channels ≤ 4) × (cell_at (geometry s.grid.frames) c * s.grid.frames.v.channels + s.grid.frames.v.channels ≤ length s.grid.frames.points.now)
-    first_inside = (s.grid.frames.ready.settings.scale.most, frame_inside n s.grid.frames.v.channels (length s.grid.frames.points.now) (cell_at g c) s.grid.frames.ready.room first_low)
+    pub first_inside : {i : ℕ} → i ≡ cell_at (geometry s.grid.frames) c → (s.grid.frames.v.channels ≤ 4) × (i * s.grid.frames.v.channels + s.grid.frames.v.channels ≤ length s.grid.frames.points.now)
+    first_inside {i} q = (s.grid.frames.ready.settings.scale.most, frame_inside n s.grid.frames.v.channels (length s.grid.frames.points.now) i s.grid.frames.ready.room (omega (arith, q, first_low)))
 
-    pub root_is : {f : List ℤ} → f ≡ placed (part s.grid.frames.points.now (cell_at (geometry s.grid.frames) c * s.grid.frames.v.channels) s.grid.frames.v.channels)
+    pub root_is : {i : ℕ} {f : List ℤ} → f ≡ placed (part s.grid.frames.points.now (i * s.grid.frames.v.channels) s.grid.frames.v.channels) → i ≡ cell_at (geometry s.grid.frames) c
         → {side : Float} → side ≡ side_at s.grid.frames.v.channels s.grid.frames.v.tolerance 0 → {b : Box} → b ≡ box_of s.grid.frames.v.channels side f → b ≡ root_box s.grid.frames.v s.grid.frames.n s.grid.frames.points.now c
     unfolding root_box
-    root_is ef es eb = eb ∙ ap₂ (box_of s.grid.frames.v.channels) es (ef ∙ ap placed (sym (frame_at n s.grid.frames.v.channels s.grid.frames.points.now (cell_at g c) first_low)))
+    root_is ef q es eb =
+        eb
+        ∙ ap₂ (box_of s.grid.frames.v.channels) es
+        (ef ∙ ap (λ (i : ℕ). placed (part s.grid.frames.points.now (i * s.grid.frames.v.channels) s.grid.frames.v.channels)) q ∙ ap placed (sym (frame_at n s.grid.frames.v.channels s.grid.frames.points.now (cell_at g c) first_low)))
 
     -- its tree: two less than the word that says where it begins is the number of its first node
     module _ {first w : ℕ} (two : (2 ≤ w) × (first ≡ w - 2)) (q : w ≡ get_or s.grid.work.now (5 * s.grid.frames.n + c) 0) where

@@ -4,7 +4,7 @@ use Rattle.core_cells.proofs.cells.CoreCells.root_first.Goals.{else-self-gt0-via
 use Rattle.core_cells.proofs.cells.CoreCells.root_first.Goals as goal
 
 pub returns-then-frames_of-le-FEW-clause-value : goal.returns-then-frames_of-le-FEW-clause-value
-returns-then-frames_of-le-FEW-clause-value c = first_none c.args.self.now c.args.c c.if-self-gt0.true c.frames_of.ensures c.if-frames_of-le-FEW.true
+returns-then-frames_of-le-FEW-clause-value c = first_none c.args.self.now c.args.c (omega (arith, c.if-self-gt0.true)) c.frames_of.ensures c.if-frames_of-le-FEW.true
 
 pub returns-clause-value : goal.returns-clause-value
 returns-clause-value c = elim c.else-self-gt0.branch [

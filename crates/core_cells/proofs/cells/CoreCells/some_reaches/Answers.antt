@@ -1,5 +1,7 @@
 use mathlib.Core.Path.{◌∙◌}
 use mathlib.Core.Bool.{◌&&◌}
+use native.Mathlib.Omega.{arith}
+use borrow.Author.Tests.{tests}
 use Rattle.std.proofs.Common.{rules}
 use Rattle.std.proofs.lemmas.Iterator.{YieldsList-from_slice}
 use Rattle.std.proofs.lemmas.Iterator.Adapters.{serves_from_places}
@@ -22,5 +24,6 @@ pub returns : goal.returns
 returns c =
     let g = geometry c.args.self.now.grid.frames in
     let f = Paths.reaches (g.box c.args.q) g.levels 0 in
-    by_paths c.args.self.now c.requires.0 c.requires.1 c.frames_of.ensures
-    (any_from_yields_List (λ x. core g x && f x) _ _ _ c.any.ensures.ran (YieldsList-from_slice c.frames_of.result.now cc) (λ x b q k. search rules) ∙ any_kept (core g) f c.frames_of.result.now)
+    let e = by_paths c.args.self.now c.requires.0 c.requires.1 c.frames_of.ensures
+    (any_from_yields_List (λ x. core g x && f x) _ _ _ c.any.ensures.ran (YieldsList-from_slice c.frames_of.result.now cc) (λ x b q k. search rules) ∙ any_kept (core g) f c.frames_of.result.now) in
+    grind (arith, tests)

@@ -13,10 +13,10 @@ pub offset_bounds-self-first : goal.offset_bounds-self-first
 offset_bounds-self-first c = omega (arith, begins_low c.args.self.now c.requires c.in_ok-first.ensures c.word-word.ensures)
 
 pub slice_bounds-result-count : goal.slice_bounds-result-count
-slice_bounds-result-count c = begins_inside c.args.self.now c.requires c.in_ok-first.ensures c.word-word.ensures
+slice_bounds-result-count c = begins_inside c.args.self.now c.requires (omega arith, omega arith) c.word-word.ensures
 
 pub slice_bounds-result-start : goal.slice_bounds-result-start
-slice_bounds-result-start c = begins_inside c.args.self.now c.requires c.in_ok-first.ensures c.word-word.ensures
+slice_bounds-result-start c = begins_inside c.args.self.now c.requires (omega arith, omega arith) c.word-word.ensures
 
 pub returns-clause-tree : goal.returns-clause-tree
-returns-clause-tree c = some_tree c.args.self.now c.requires c.in_ok-first.ensures c.word-word.ensures
+returns-clause-tree c = some_tree c.args.self.now c.requires (omega arith, omega arith) c.word-word.ensures
