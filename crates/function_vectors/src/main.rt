@@ -77,20 +77,25 @@ fn digit(b: u8) -> u64
 }
 
 // The number of some digits at a place, in 64 bits: what does not fit is dropped, from the front.
-fn number(line: &[u8; LINE], at: usize, digits: usize) -> u64 {
-    line.iter()
-        .skip(at)
-        .take(digits)
+fn number(line: &[u8; LINE], at: usize, digits: usize) -> u64
+    requires { at + digits ≤ LINE }
+{
+    line[at..at + digits]
+        .iter()
         .fold(0, |n, b| (n << 4) | digit(*b))
 }
 
 // The count of the 4 digits at a place, in two's complement.
-fn count_at(line: &[u8; LINE], at: usize) -> i16 {
+fn count_at(line: &[u8; LINE], at: usize) -> i16
+    requires { at + 4 ≤ LINE }
+{
     ((number(line, at, 4) % 65536) as u16).cast_signed()
 }
 
 // The float whose bits the 16 digits at a place are.
-fn float_at(line: &[u8; LINE], at: usize) -> f64 {
+fn float_at(line: &[u8; LINE], at: usize) -> f64
+    requires { at + 16 ≤ LINE }
+{
     let bits = number(line, at, 16);
     if bits % SIGN_BIT > INFINITY {
         return f64::NAN;
@@ -105,7 +110,7 @@ fn bits_of(x: f64) -> u64 {
 
 // The number of the sign and the 8 digits at a place.
 fn index_at(line: &[u8; LINE], at: usize) -> i64
-    requires { at < LINE }
+    requires { at + 9 ≤ LINE }
 {
     let n = (number(line, at + 1, 8) % 4294967296) as i64;
     if line[at] == b'-' { -n } else { n }
