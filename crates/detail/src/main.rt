@@ -7,6 +7,7 @@ ghost use Rattle.std.specs.Prelude.{◌≡◌, ◌+◌, ◌*◌, ◌<◌, ◌≤
 ghost use Rattle.hyperparams.specs.Params.{work_words};
 ghost use Rattle.counting_tree.specs.Given.{geometry};
 ghost use Rattle.core_cells.specs.Forest.{Grown};
+ghost use Rattle.detail.specs.Digits.{digit_of, two_of, four_of};
 
 use cells_grid::CellsGrid;
 use cells_grid::listing::TREES;
@@ -42,7 +43,8 @@ fn set_end(text: &[u8]) -> usize
 
 // What a byte counts for as a digit: bytes that are none count on from `0` and `a`, modulo 16, and 0 below.
 fn digit(b: u8) -> u8
-    ensures { result < 16 }
+    ensures value { result ≡ digit_of b }
+    ensures bound { result < 16 }
 {
     match b {
         b'a'.. => (b - b'a' + 10) % 16,
@@ -54,6 +56,7 @@ fn digit(b: u8) -> u8
 // The number of the 2 digits at a place.
 fn two_digits(text: &[u8], at: usize) -> u8
     requires { at + 2 ≤ length text.now }
+    ensures { result ≡ two_of text.now at }
 {
     16 * digit(text[at]) + digit(text[at + 1])
 }
@@ -61,6 +64,7 @@ fn two_digits(text: &[u8], at: usize) -> u8
 // The number of the 4 digits at a place.
 fn four_digits(text: &[u8], at: usize) -> u16
     requires { at + 4 ≤ length text.now }
+    ensures { result ≡ four_of text.now at }
 {
     256 * u16::from(two_digits(text, at)) + u16::from(two_digits(text, at + 2))
 }
