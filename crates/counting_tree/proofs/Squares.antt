@@ -48,3 +48,7 @@ squares_past {xs} {ys} {k} {sum} s h = record {
   value = ap (λ (z : Frame). sum + squared z (drop (k + 1) ys)) (drop_of_length-le xs (omega arith)) ∙ ap (λ (z : Frame). sum + squared z (drop k ys)) (sym (drop_of_length-le xs h)) ∙ s.value;
   bound = omega (arith, s.bound);
 }
+
+-- the sum of all channels
+pub squares_end : {xs ys : Frame} {k sum : ℕ} → Squares xs ys k sum → length xs ≤ k → sum ≡ squared xs ys
+squares_end {xs} {ys} {k} s h = omega (arith, s.value, ap (λ (z : Frame). squared z (drop k ys)) (drop_of_length-le xs h))
