@@ -143,6 +143,10 @@ module _ (w : ℕ) (es : List ℕ) (f : Frame) where
           let b : length (0 ∷ L) ≤ k = omega (arith, h, low_long) in
           u ∙ ap₂ same_nats (sym (drop_of_length-le (key_of w f) a)) (sym (drop_of_length-le (0 ∷ L) b))
 
+      -- past the last
+      pub same_past : (k : ℕ) → length f ≤ k → same_from (k + 1) ≡ same_from k
+      same_past k h = sym (all_same (k + 1) (omega arith) refl) ∙ all_same k h refl
+
     -- channel k differs
     pub one_differs : (k : ℕ) {t u : Bool} → same_from k ≡ t && same_from (k + 1) → t ≡ false → u ≡ false → u ≡ same_from k
     one_differs k n e z = z ∙ sym (n ∙ ap (λ (t : Bool). t && same_from (k + 1)) e)

@@ -172,8 +172,9 @@ pub fn in_row(frames: &Frames, width: u64, first: [u64; 4], m: usize, j: usize) 
     ensures { result ≡ same_nats (key_of width (drop 1 (frame_of frames.now j))) (shifted width (take (frames.now.v.channels - 1) (drop 1 first)) m) }
 {
     let frame = frames.frame(j);
-    for k in 1..frames.v.channels {
-        if !holds(frame[k], first[k], width, (m >> (k - 1)) % 2) {
+    // up to 4, whatever the channels: so the loop is unrolled, and `first` stays in registers
+    for k in 1..4 {
+        if k < frames.v.channels && !holds(frame[k], first[k], width, (m >> (k - 1)) % 2) {
             return false;
         }
     }

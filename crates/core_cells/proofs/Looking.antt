@@ -1,5 +1,6 @@
 -- The loops over the frames of a cell: the least number found of the core ones, whether one passes a test, and what all tell.
 use mathlib.Core.Path.{◌≡◌, refl, sym, ap, ◌∙◌}
+use mathlib.Core.Logic.{◌⊎◌, inl, inr}
 use mathlib.Core.Bool.{Bool, true, false, cond, ◌&&◌, ◌||◌}
 use mathlib.Core.List.{List, [], ◌∷◌}
 use Prim.Native.Nat.{ℕ, suc, ◌+◌, ◌<◌, ◌≤◌, min}
@@ -31,18 +32,19 @@ module _ (p : ℕ → Bool) (xs : List ℕ) where
       ∙ ap (λ (c : Bool). cond c (get_or xs k 0 ∷ keep p (drop (suc k) xs)) (keep p (drop (suc k) xs))) (sym z)
       ∙ ap (λ (m : ℕ). cond b (get_or xs k 0 ∷ left m) (left m)) (sym (add-one k))
 
--- ---- what is found from place k on is found of all
+-- ---- what is found from place k on is found of all, if none before is below `enough`
 pub record Looking (p : ℕ → Bool) (enough : ℕ) (f : ℕ → ℕ) (xs : List ℕ) (least k : ℕ) : Type 0 where
+  pub none_below : enough ≤ least
   pub bound : least ≤ beyond
   pub value : least_until enough f least (left p xs k) ≡ least_until enough f beyond (keep p xs)
 
 module _ {p : ℕ → Bool} {enough : ℕ} {f : ℕ → ℕ} {xs : List ℕ} where
-  pub looking_start : Looking p enough f xs beyond 0
-  looking_start = record { bound = omega arith; value = refl }
+  pub looking_start : enough ≤ beyond → Looking p enough f xs beyond 0
+  looking_start h = record { none_below = h; bound = omega arith; value = refl }
 
   module _ {least k : ℕ} (I : Looking p enough f xs least k) (h : k < length xs) {b : Bool} (z : b ≡ p (get_or xs k 0)) where
     pub looking_miss : b ≡ false → Looking p enough f xs least (k + 1)
-    looking_miss q = record { bound = I.bound; value = ap (least_until enough f least) (sym (left_first p xs h (sym q ∙ z))) ∙ I.value }
+    looking_miss q = record { none_below = I.none_below; bound = I.bound; value = ap (least_until enough f least) (sym (left_first p xs h (sym q ∙ z))) ∙ I.value }
 
     module _ (q : b ≡ true) {d : ℕ} (e : d ≡ f (get_or xs k 0)) where
       first : least_until enough f least (get_or xs k 0 ∷ left p xs (k + 1)) ≡ least_until enough f beyond (keep p xs)
@@ -53,10 +55,25 @@ module _ {p : ℕ → Bool} {enough : ℕ} {f : ℕ → ℕ} {xs : List ℕ} whe
 
       pub looking_more : enough ≤ d → {r : ℕ} → r ≡ min least d → Looking p enough f xs r (k + 1)
       looking_more l {r} er = record {
+        none_below = omega (arith, I.none_below);
         bound = omega (arith, I.bound);
         value = ap (λ (m : ℕ). least_until enough f m (left p xs (k + 1))) (er ∙ ap (min least) e)
             ∙ sym (least_next enough f least (get_or xs k 0) (left p xs (k + 1)) (omega arith)) ∙ first;
       }
+
+  -- where d is the number of one that passes, or else `beyond`
+  module _ {least k : ℕ} (I : Looking p enough f xs least k) (h : k < length xs) where
+    pub looking_skip : (b : Bool) → b ≡ p (get_or xs k 0) → {d : ℕ} → d ≡ cond b (f (get_or xs k 0)) beyond → least ≤ d → Looking p enough f xs least (k + 1)
+    looking_skip false z e l = looking_miss I h z refl
+    looking_skip true z e l = looking_more I h z refl e (omega (arith, l, I.none_below)) (omega (arith, l))
+
+    pub looking_less : (b : Bool) → b ≡ p (get_or xs k 0) → {d : ℕ} → d ≡ cond b (f (get_or xs k 0)) beyond → d < least → enough ≤ d → Looking p enough f xs d (k + 1)
+    looking_less false z e l m = absurd (omega (arith, e, l, I.bound))
+    looking_less true z e l m = looking_more I h z refl e m (omega (arith, l))
+
+    pub looking_found : (b : Bool) → b ≡ p (get_or xs k 0) → {d : ℕ} → d ≡ cond b (f (get_or xs k 0)) beyond → d < least → d < enough → d ≡ least_until enough f beyond (keep p xs)
+    looking_found false z e l m = absurd (omega (arith, e, l, I.bound))
+    looking_found true z e l m = looking_stop I h z refl e m
 
   pub looking_end : {least k : ℕ} → Looking p enough f xs least k → length xs ≤ k → least ≡ least_until enough f beyond (keep p xs)
   looking_end {least} I h = sym (ap (least_until enough f least) (left_end p xs h) ∙ least_none enough f least) ∙ I.value
@@ -68,6 +85,11 @@ least_found_of {least} h {r} e = rw e (go (ltb least beyond) refl)
     go : (b : Bool) → ltb least beyond ≡ b → (unwrap_or (then_some b least) beyond ≡ least) × IfSome (then_some b least) (λ x. x ≤ beyond)
     go true q = (refl, h)
     go false q = (omega (arith, ltb-false least beyond q), tt)
+
+-- the number of one that passes, or else `beyond`
+pub passed_or_beyond : {b : Bool} {d x : ℕ} → ((b ≡ true) × (d ≡ x)) ⊎ ((b ≡ false) × (d ≡ beyond)) → d ≡ cond b x beyond
+passed_or_beyond {x = x} (inl z) = z.1 ∙ ap (λ (t : Bool). cond t x beyond) (sym z.0)
+passed_or_beyond {x = x} (inr z) = z.1 ∙ ap (λ (t : Bool). cond t x beyond) (sym z.0)
 
 -- ---- whether one passes both p and f
 pub any_kept : (p f : ℕ → Bool) (xs : List ℕ) → list_any (λ x. p x && f x) xs ≡ any f (keep p xs)

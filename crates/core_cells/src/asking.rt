@@ -44,16 +44,20 @@ impl CoreCells<'_> {
         let frames = self.grid.frames;
         let enough = frames.v.t * frames.v.t;
         let mut least = BEYOND;
+        // one way out of the loop, and most frames asked only whether they are nearer
         for x in self.grid.frames_of(c) {
             let x = *x as usize;
-            if !self.is_core(x) {
-                continue;
+            let apart = if self.is_core(x) {
+                frames.square_apart(q, x)
+            } else {
+                BEYOND
+            };
+            if apart < least {
+                least = apart;
+                if apart < enough {
+                    break;
+                }
             }
-            let apart = frames.square_apart(q, x);
-            if apart < enough {
-                return Some(apart);
-            }
-            least = least.min(apart);
         }
         (least < BEYOND).then_some(least)
     }

@@ -1,5 +1,5 @@
 -- The sum of squared differences of two frames, one channel more of it.
-use mathlib.Core.Path.{◌≡◌, sym, ap, ap₂, ◌∙◌, refl, subst}
+use mathlib.Core.Path.{◌≡◌, sym, ap, ap₂, ◌∙◌}
 use Prim.Native.Nat.{ℕ, suc, ◌+◌, ◌*◌, ◌^◌, ◌≤◌, ◌<◌}
 use native.Mathlib.Nat.{zero-add, add_assoc}
 use native.Mathlib.Numerals.{add-one}
@@ -34,21 +34,9 @@ squares_more {xs} {ys} {k} {sum} s hx hy cx cy q e i b = record {
     split = ap₂ squared (drop-cons xs k (pos 0) hx) (drop-cons ys k (pos 0) hy)
         ∙ ap (λ (m : ℕ). m + squared (drop (suc k) xs) (drop (suc k) ys)) (sym (e ∙ i ∙ ap₂ (λ (z w : ℤ). apart z w * apart z w) (read (get_or xs k (pos 0)) cx) (read (get_or ys k (pos 0)) cy)))
 
--- that of the first
-pub squares_one : {xs ys : Frame} → 0 < length xs → 0 < length ys → Count (get_or xs 0 (pos 0)) → Count (get_or ys 0 (pos 0)) → (q : ℕ)
-    → q ≡ apart (to_z w16 (of_z w16 (get_or xs 0 (pos 0)))) (to_z w16 (of_z w16 (get_or ys 0 (pos 0)))) * apart (to_z w16 (of_z w16 (get_or xs 0 (pos 0)))) (to_z w16 (of_z w16 (get_or ys 0 (pos 0)))) → q ≤ 2 ^ 32
-    → Squares xs ys 1 q
-squares_one {xs} {ys} hx hy cx cy q e b =
-    let s : Squares xs ys 1 (0 + q) = squares_more (squares_none xs ys) hx hy cx cy q e refl b in
-    subst (λ (m : ℕ). Squares xs ys 1 m) (zero-add q) s
-
 -- a channel that is not used
 pub squares_past : {xs ys : Frame} {k sum : ℕ} → Squares xs ys k sum → length xs ≤ k → Squares xs ys (k + 1) sum
 squares_past {xs} {ys} {k} {sum} s h = record {
   value = ap (λ (z : Frame). sum + squared z (drop (k + 1) ys)) (drop_of_length-le xs (omega arith)) ∙ ap (λ (z : Frame). sum + squared z (drop k ys)) (sym (drop_of_length-le xs h)) ∙ s.value;
   bound = omega (arith, s.bound);
 }
-
--- the sum of all channels
-pub squares_end : {xs ys : Frame} {k sum : ℕ} → Squares xs ys k sum → length xs ≤ k → sum ≡ squared xs ys
-squares_end {xs} {ys} {k} s h = omega (arith, s.value, ap (λ (z : Frame). squared z (drop k ys)) (drop_of_length-le xs h))

@@ -1,10 +1,11 @@
 -- Where whole numbers settle a root box, the box test says the same.
-use Rattle.std.specs.Prelude.{◌≡◌, Bool, true, false, cond, List, ℕ, ◌^◌, ◌<◌, ℤ, T, length, Float, Option, Some, None}
+use Rattle.std.specs.Prelude.{◌≡◌, refl, Bool, true, false, cond, List, ℕ, ◌^◌, ◌<◌, ℤ, T, length, Float, Option, Some, None}
 use Rattle.std.proofs.Common.{sym, ap, ◌∙◌, lit≤, pow_pos, pow_mono}
 use Rattle.lists.specs.ListLaws.{true_T}
 use Rattle.hyperparams.specs.Params.{float}
 use Rattle.hyperparams.specs.declared.ValidParams.{ValidParams}
-use Rattle.counting_tree.specs.declared.IntersectionType.TheVariants.{Disjoint, FullyCovered}
+use Rattle.counting_tree.specs.declared.IntersectionType.{IntersectionType}
+use Rattle.counting_tree.specs.declared.IntersectionType.TheVariants.{Disjoint, FullyCovered, Intersecting}
 use Rattle.counting_tree.specs.Frames.{floats, frames_in}
 use Rattle.counting_tree.specs.FramesIn.{frame_length}
 use Rattle.counting_tree.specs.Grid.{side_at, centres}
@@ -41,6 +42,22 @@ told_near : (a b : Bool) → ◌≡◌ {A = Option Bool} (cond a (Some false) (c
 told_near true b e = absurd (true_T (ap is_yes e))
 told_near false true e = tt
 told_near false false e = absurd (true_T (ap is_yes e))
+
+-- the answer of a box test that it tells
+abbrev pub answer_told : Option Bool → IntersectionType
+answer_told None = Intersecting
+answer_told (Some false) = Disjoint
+answer_told (Some true) = FullyCovered
+
+-- what is settled is the answer of the first two tests
+settled_is : (v : ValidParams) (sum : Float) → answer_told (settled_by v sum) ≡ answer (beyond v sum) (inside v sum) true false
+unfolding settled_by
+settled_is v sum = go (beyond v sum) (inside v sum)
+  where
+    go : (a b : Bool) → answer_told (cond a (Some false) (cond b (Some true) None)) ≡ answer a b true false
+    go true b = refl
+    go false true = refl
+    go false false = refl
 
 module _ {ps : List ℤ} {v : ValidParams} {n : ℕ} (r : Ready ps v n) (q x : ℕ) (hq : q < n) (hx : x < n)
     (cq : Counts (frame v (frames_in n v.channels ps) q)) (cx : Counts (frame v (frames_in n v.channels ps) x)) where

@@ -84,20 +84,13 @@ impl Frames<'_> {
     {
         let a = self.frame(i);
         let b = self.frame(j);
-        // channel by channel, not by a loop: then a loop over frames is compiled once for each number of channels
-        let one = square(a[0], b[0]);
-        if self.v.channels < 2 {
-            return one;
+        let mut sum = 0;
+        for k in 0..4 {
+            if k < self.v.channels {
+                sum += square(a[k], b[k]);
+            }
         }
-        let two = one + square(a[1], b[1]);
-        if self.v.channels < 3 {
-            return two;
-        }
-        let three = two + square(a[2], b[2]);
-        if self.v.channels < 4 {
-            return three;
-        }
-        three + square(a[3], b[3])
+        sum
     }
 
     // Frame i.
