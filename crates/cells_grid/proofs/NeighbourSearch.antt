@@ -1,5 +1,6 @@
 -- A search for neighbours is one for the reach t: what its rows say, for that reach.
 use mathlib.Core.Path.{◌≡◌, sym, ap, ap₂, subst, ◌∙◌}
+use mathlib.Core.Bool.{Bool}
 use mathlib.Core.List.{List, ◌++◌}
 use Prim.Native.Nat.{ℕ, ◌+◌, ◌-◌, ◌*◌, ◌%◌, ◌^◌, ◌≤◌, min}
 use lib.ListN.{length, take, replicate}
@@ -7,11 +8,12 @@ use Rattle.lists.specs.Words.{over, part}
 use lib.IntN.{ℤ}
 use Rattle.lists.specs.Sorting.{Sorted}
 use Rattle.hyperparams.specs.declared.ValidParams.{ValidParams}
+use Rattle.cells_grid.specs.Cells.{first}
 use Rattle.lists.specs.Lists.{how_many, Below}
 use Rattle.counting_tree.specs.Given.{geometry, frame_of}
-use Rattle.counting_tree.specs.Ready.{at_least}
+use Rattle.counting_tree.specs.Ready.{geometry_at, at_least}
 use Rattle.blocks.specs.declared.Stretch.{Stretch}
-use Rattle.blocks.specs.Blocks.{width, edges_of, own_row, bucket_around, stretch_in}
+use Rattle.blocks.specs.Blocks.{same_nats, width, edges_of, row_of, row_around, own_row, bucket_around, stretch_in}
 use Rattle.blocks.specs.OwnRowLaws.{own_which}
 use Rattle.cells_grid.specs.Crowding.{frame_key, frames_near, neighbour_in, neighbours_in}
 use Rattle.cells_grid.specs.Pairs.{row_for}
@@ -53,6 +55,16 @@ module _ (s : Search) where
 
   pub by_block : let f = s.around.frames.now in Sorted (frame_key f.v f.n f.points.now) f.n (8 * f.n) (2 * f.n) 0 s.sorted.sorted.now
   by_block = moved (λ v n ps. Sorted (frame_key v n ps) n (8 * n) (2 * n) 0 s.sorted.sorted.now) s.sorted.by_block
+
+  -- the first frame of frame j's cell, and whether frame j lies in row m, for the reach t
+  pub first_is : (j : ℕ) {x : ℕ} → x ≡ first (geometry s.sorted.grid.frames) j → x ≡ first (geometry s.around.frames.now) j
+  first_is j {x} = moved (λ v n ps. x ≡ first (geometry_at v n ps) j)
+
+  pub row_is : (m j : ℕ) {b : Bool} → (let a = s.around in let f = a.frames.now in b ≡ same_nats (row_of a.reach f.v f.n f.points.now j) (row_around a.reach f.v f.n f.points.now a.i m))
+      → let a = s.around in let f = a.frames.now in b ≡ same_nats (row_of f.v.t f.v f.n f.points.now j) (row_around f.v.t f.v f.n f.points.now a.i m)
+  row_is m j q =
+      let a = s.around in let f = a.frames.now in
+      q ∙ ap (λ (z : ℕ). same_nats (row_of z f.v f.n f.points.now j) (row_around z f.v f.n f.points.now a.i m)) s.reach_is
 
   pub begin_is : let a = s.around in let f = a.frames.now in a.first ≡ over (replicate 4 0) 0 (edges_of (width f.v.t) f.v.t (frame_of f a.i))
   begin_is = let a = s.around in a.begin ∙ ap (λ (z : ℕ). over (replicate 4 0) 0 (edges_of (width z) z (frame_of a.frames.now a.i))) s.reach_is
